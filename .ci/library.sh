@@ -90,6 +90,7 @@ try_c() {
 	make -s -C examples/c OUT="$built" CC="$compiler" CFLAGS="$flags" || fail "$name: the examples aren't built"
 	"$@" "$built/calls" | diff examples/c/calls.txt - || fail "$name: examples/c/calls says something else"
 	"$@" "$built/bus" examples/sensor-board.plan | diff "$work/report" - || fail "$name: examples/c/bus ends with another report"
+	"$@" "$built/edits" | diff examples/c/edits.txt - || fail "$name: examples/c/edits says something else"
 	try_arena "$name" "$built" "$@"
 	# the arena by itself, with what makes pointers of it built by the compiler's flags, too
 	# shellcheck disable=SC2086

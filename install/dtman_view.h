@@ -29,7 +29,7 @@ extern "C" {
 #endif
 
 /* Which calls there are: it grows by one with each call more, and by a hundred where one changes. */
-#define DTMAN_VIEW_VERSION 208
+#define DTMAN_VIEW_VERSION 213
 
 /* No bytes. */
 #define DTMAN_VIEW_NONE ((const uint8_t *)"")
@@ -44,7 +44,10 @@ enum {
 	DTMAN_EDIT_OTHER_LENGTH = 10, /* of changes alone: the value has another length */
 	DTMAN_EDIT_UNORDERED = 11, /* of changes alone: the blocks don't stand in order and apart, or the blob has version 16 */
 	DTMAN_EDIT_SHORT = 12,     /* of changes alone: the buffer wants `at` bytes */
-	DTMAN_EDIT_BAD_NAME = 13   /* of changes alone: what is added has no lawful name */
+	DTMAN_EDIT_BAD_NAME = 13,  /* of changes alone: what is added has no lawful name */
+	DTMAN_EDIT_ROOT = 14,      /* of changes alone: the root isn't deleted */
+	DTMAN_EDIT_EXISTS = 15,    /* of changes alone: the node has a child of the name */
+	DTMAN_EDIT_TOO_DEEP = 16   /* of changes alone: 64 nodes are round the node, so it has no child */
 };
 
 struct dtman_view_told {
@@ -109,6 +112,15 @@ struct dtman_view_told dtman_view_next_sibling(const struct dtman_view *view, si
  * behind the last. BAD_OFFSET.
  */
 struct dtman_view_told dtman_view_next_node(const struct dtman_view *view, size_t node);
+
+/*
+ * The parent of a node: the structure block is read from its beginning up to the node. NOTHING of the root. BAD_OFFSET, also where a value
+ * only looks like a node.
+ */
+struct dtman_view_told dtman_view_parent(const struct dtman_view *view, size_t node);
+
+/* How many nodes are round a node, as `at`: 0 of the root. It is read like the parent. BAD_OFFSET. */
+struct dtman_view_told dtman_view_depth(const struct dtman_view *view, size_t node);
 
 /* The child of a node by its whole name, unit address and all. NOTHING where it has no such child. BAD_OFFSET. */
 struct dtman_view_told dtman_view_child(const struct dtman_view *view, size_t node, const void *name, size_t name_length);
@@ -195,6 +207,29 @@ struct dtman_view_told dtman_edit_set_in_place(void *blob, size_t length, const 
  */
 struct dtman_view_told dtman_edit_set(void *buffer, size_t length, const void *path, size_t path_length, const void *name,
 	size_t name_length, const void *value, size_t value_length);
+
+/*
+ * Deletes a property of the node at a path, in place: what stands behind it is moved once. Its name stays in the strings, and the blob's
+ * size in the header as it was. Views over the blob are to be opened anew. NOTHING where there is no such node or property, BAD_PATH,
+ * UNORDERED, REFUSED.
+ */
+struct dtman_view_told dtman_edit_delete_property(void *blob, size_t length, const void *path, size_t path_length, const void *name,
+	size_t name_length);
+
+/*
+ * Adds an empty node to the node at a path, by a whole name, unit address and all: behind the properties, before the first child. The blob
+ * stands at the front of a buffer of `length` bytes, which may have room behind it. What stands behind the node is moved once. Views over
+ * the buffer are to be opened anew. NOTHING where there is no node at the path, BAD_PATH, BAD_NAME, EXISTS, TOO_DEEP, UNORDERED, SHORT,
+ * REFUSED. The path and the name stand outside of the buffer.
+ */
+struct dtman_view_told dtman_edit_add_node(void *buffer, size_t length, const void *path, size_t path_length, const void *name,
+	size_t name_length);
+
+/*
+ * Deletes the node at a path with all below it, in place: what stands behind it is moved once. Phandles and aliases that name it stay.
+ * Views over the blob are to be opened anew. NOTHING where there is no such node, BAD_PATH, ROOT, UNORDERED, REFUSED.
+ */
+struct dtman_view_told dtman_edit_delete_node(void *blob, size_t length, const void *path, size_t path_length);
 
 #ifdef __cplusplus
 }

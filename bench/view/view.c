@@ -155,6 +155,55 @@ static void resize_fdt(struct input *in)
 			sink += fdt_setprop(in->roomy, fdt_path_offset(in->roomy, in->paths[i]), "bench", value, length);
 }
 
+/* A property that is new, and gone again. */
+static void delete_view(struct input *in)
+{
+	static const uint8_t value[24];
+
+	for (int i = 0; i < in->path_count; i++) {
+		told = dtman_edit_set(in->roomy, in->length + ROOM, in->paths[i], strlen(in->paths[i]), "brief", 5, value, sizeof value);
+		sink += told.status;
+		told = dtman_edit_delete_property(in->roomy, in->length + ROOM, in->paths[i], strlen(in->paths[i]), "brief", 5);
+		sink += told.status;
+	}
+}
+
+static void delete_fdt(struct input *in)
+{
+	static const uint8_t value[24];
+
+	for (int i = 0; i < in->path_count; i++) {
+		sink += fdt_setprop(in->roomy, fdt_path_offset(in->roomy, in->paths[i]), "brief", value, sizeof value);
+		sink += fdt_delprop(in->roomy, fdt_path_offset(in->roomy, in->paths[i]), "brief");
+	}
+}
+
+/* A node that is new, and gone again. */
+static void node_view(struct input *in)
+{
+	char path[LONGEST + 16];
+
+	for (int i = 0; i < in->path_count; i++) {
+		int length = sprintf(path, "%s/brief", in->paths[i][1] ? in->paths[i] : "");
+
+		told = dtman_edit_add_node(in->roomy, in->length + ROOM, in->paths[i], strlen(in->paths[i]), "brief", 5);
+		sink += told.status;
+		told = dtman_edit_delete_node(in->roomy, in->length + ROOM, path, length);
+		sink += told.status;
+	}
+}
+
+static void node_fdt(struct input *in)
+{
+	char path[LONGEST + 16];
+
+	for (int i = 0; i < in->path_count; i++) {
+		sprintf(path, "%s/brief", in->paths[i][1] ? in->paths[i] : "");
+		sink += fdt_add_subnode(in->roomy, fdt_path_offset(in->roomy, in->paths[i]), "brief");
+		sink += fdt_del_node(in->roomy, fdt_path_offset(in->roomy, path));
+	}
+}
+
 static double least(void (*step)(struct input *), struct input *in, int times)
 {
 	double best = 1e18;
@@ -226,5 +275,7 @@ int main(int count, char **words)
 	measure("a node by its phandle", &in, phandle_view, phandle_fdt, 10, 1);
 	measure("a property read and set in place by its path", &in, set_view, set_fdt, 1, in.path_count);
 	measure("a property set to another length by its path", &in, resize_view, resize_fdt, 1, 2 * in.path_count);
+	measure("a property added and deleted by its path", &in, delete_view, delete_fdt, 1, in.path_count);
+	measure("a node added and deleted by its path", &in, node_view, node_fdt, 1, in.path_count);
 	return sink == 42;
 }

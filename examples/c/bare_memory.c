@@ -1,10 +1,10 @@
 /*
- * What the libraries want where there is no libc: the view memmove and memset, the engines memcpy, memcmp and bcmp too, as the C standard
- * says. `volatile` keeps a compiler from making one a call of itself.
+ * What the libraries want where there is no libc: the view memcpy, memmove and memset, the engines memcmp and bcmp too, as the C
+ * standard says. `volatile` keeps a compiler from making one a call of itself.
  */
 #include <stddef.h>
 
-void *memcpy(void *to, const void *from, size_t count);
+void *memcpy(void *restrict to, const void *restrict from, size_t count);
 void *memmove(void *to, const void *from, size_t count);
 void *memset(void *to, int byte, size_t count);
 int memcmp(const void *one, const void *other, size_t count);
@@ -24,7 +24,7 @@ void *memmove(void *to, const void *from, size_t count)
 	return to;
 }
 
-void *memcpy(void *to, const void *from, size_t count)
+void *memcpy(void *restrict to, const void *restrict from, size_t count)
 {
 	return memmove(to, from, count);
 }

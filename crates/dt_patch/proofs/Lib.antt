@@ -1,12 +1,17 @@
 mod Blocks
 mod Changed
+mod Cuts
+mod Fills
+mod Firsts
 mod Found
 mod Laid
 mod Makes
 mod Named
+mod Nodes
 mod Puts
 mod Rooms
 mod Sets
+mod Slashes
 mod Splices
 mod Trees
 mod Values

@@ -41,6 +41,9 @@ lawful name e = by_empty (length name == 0) refl e where
   by_empty true f g = absurd (let bad : false ≡ true = (rw f at g) in cc bad)
   by_empty false f g = by_long (nat_lt 255 (length name)) refl (rw f at g)
 
+pub clean_name : (name : List ℕ) → is_name name ≡ true → has_no_zero name ≡ true
+clean_name name e = (lawful name e).clean
+
 pub short_name : (name : List ℕ) → is_name name ≡ true → length name ≤ 255
 short_name name e = (lawful name e).short
 

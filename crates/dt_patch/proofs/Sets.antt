@@ -19,7 +19,7 @@ use Rattle.dt_patch.specs.declared.splicing.Span.{Span}
 use Rattle.dt_patch.specs.Private.Places.{IsNodeOf}
 use Rattle.dt_patch.specs.Private.Planning.{IsEnd, IsSetSpan, Lies}
 use Rattle.dt_patch.specs.Setting.{old_size, place_fault, property_size}
-use Rattle.dt_patch.proofs.Splices.{alone, joined, kept_append}
+use Rattle.dt_view.proofs.Spellings.{alone, joined, kept_append}
 use Rattle.dt_patch.proofs.Trees.{add_turns, property_set, set, set_turns, tree_with, turns_at}
 
 -- ---- from a token to the one behind it

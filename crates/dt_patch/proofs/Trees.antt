@@ -27,7 +27,7 @@ record ChildSplit (s : Siblings) (k : List ℕ) (c : NodeData) : Type 0 where
   own : sibling_tokens s ≡ before_child s k ++ (tokens_of c ++ after)
   changed : (f : NodeData → NodeData) → sibling_tokens (change_child k f s) ≡ before_child s k ++ (tokens_of (f c) ++ after)
 
-regrouped : (ps : List Property) (children rest : Siblings) (ts : List Token)
+pub regrouped : (ps : List Property) (children rest : Siblings) (ts : List Token)
     → (property_tokens ps ++ (sibling_tokens children ++ end_node ∷ sibling_tokens rest)) ++ ts ≡ property_tokens ps ++ (sibling_tokens children ++ end_node ∷ (sibling_tokens rest ++ ts))
 regrouped ps children rest ts =
     append_assoc (property_tokens ps) (sibling_tokens children ++ end_node ∷ sibling_tokens rest) ts

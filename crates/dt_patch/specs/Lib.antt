@@ -1,3 +1,5 @@
+pub mod Adding
 pub mod Order
 pub mod Private
+pub mod Removing
 pub mod Setting

@@ -1,4 +1,5 @@
 -- What only the contracts of private functions cite.
+pub mod Cutting
 pub mod Gaps
 pub mod Naming
 pub mod Pieces

@@ -3,11 +3,16 @@ ghost use Rattle.std.specs.Prelude.{◌≡◌, ◌+◌, ◌-◌, ◌%◌, ◌≤
 ghost use Rattle.dt_blob.specs.BigEndian.{word};
 ghost use Rattle.dt_blob.specs.Blob.{padding};
 ghost use Rattle.dt_patch.specs.Private.Places.{put_at};
+ghost use Rattle.dt_patch.specs.Private.Cutting.{node_bytes};
 ghost use Rattle.dt_patch.specs.Private.Pieces.{property_bytes};
 
 use byteorder::{BigEndian, ByteOrder};
 
-/// The word that begins a property (section 5.4.1).
+/// The words that begin a node, end it, and begin a property (section 5.4.1).
+const BEGIN_NODE: u32 = 1;
+
+const END_NODE: u32 = 2;
+
 const PROPERTY: u32 = 3;
 
 /// Puts bytes at a place.
@@ -48,4 +53,18 @@ pub(crate) fn put_property(blob: &mut [u8], at: usize, name: u32, value: &[u8])
     put_word(blob, at + 8, name);
     put(blob, at + 12, value);
     put_padding(blob, at + 12 + value.len(), value.len());
+}
+
+/// Puts an empty node of a name at a place.
+pub(crate) fn put_node(blob: &mut [u8], at: usize, name: &[u8])
+    requires room { at + length (node_bytes name.now) ≤ length blob.old }
+    requires short { length blob.old < 2 ^ 32 }
+    ensures { blob.new ≡ put_at blob.old at (node_bytes name.now) }
+{
+    let end = at + 4 + name.len();
+    put_word(blob, at, BEGIN_NODE);
+    put(blob, at + 4, name);
+    put(blob, end, &[0]);
+    put_padding(blob, end + 1, name.len() + 1);
+    put_word(blob, end + 1 + (4 - (name.len() + 1) % 4) % 4, END_NODE);
 }

@@ -20,4 +20,10 @@ pub enum PatchError {
     BadName,
     /// The buffer has too little room: it wants so many bytes.
     Short(usize),
+    /// The path is the root's, which isn't deleted.
+    Root,
+    /// The node has a child of this name.
+    Exists,
+    /// The node stands at the greatest depth that a node can have.
+    TooDeep,
 }

@@ -1,14 +1,18 @@
 //! Changes of a blob in the caller's bytes: without memory of its own and without recursion.
 #![tactic(auto)]
 
+mod adding;
 mod bytes;
 mod error;
 mod layout;
 mod naming;
 mod placing;
 mod planning;
+mod removing;
 mod setting;
 mod splicing;
 
+pub use adding::add_node;
 pub use error::PatchError;
+pub use removing::{delete_node, delete_property};
 pub use setting::{set, set_in_place};

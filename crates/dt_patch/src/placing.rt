@@ -28,7 +28,7 @@ pub(crate) fn node_place(view: &View<'_>, path: &[u8]) -> Result<NodeOffset, Pat
     }
 }
 
-fn property_place<'a>(
+pub(crate) fn property_place<'a>(
     view: &View<'a>,
     path: &[u8],
     name: &[u8],

@@ -31,10 +31,11 @@ pub(crate) struct SetPlan {
 }
 
 /// The end of a node's properties, where one can be added.
-fn end_span(view: &View<'_>, node: NodeOffset) -> Result<Span, PatchError>
+pub(crate) fn end_span(view: &View<'_>, node: NodeOffset) -> Result<Span, PatchError>
     ensures stands { (d : NodeData) (before : List Token) → StandsAt view.now node.at d → Reached view.now node.at before
         → IsOkAnd result (λ s. IsEnd view.now before d s) }
     ensures inside { IfOk result (λ s. Lies view.now s) }
+    ensures empty { IfOk result (λ s. s.next ≡ s.at) }
 {
     match view.properties_end(node) {
         Ok(at) => Ok(Span { at, next: at }),

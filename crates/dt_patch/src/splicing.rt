@@ -1,11 +1,13 @@
 //! Bytes of the structure block with others in their place: what stands behind them moves once.
-ghost use Rattle.std.specs.Prelude.{◌≡◌, ◌+◌, ◌-◌, ◌≤◌, ◌<◌, ◌^◌, length, MatchResult};
+ghost use Rattle.std.specs.Prelude.{◌≡◌, ◌+◌, ◌-◌, ◌≤◌, ◌<◌, ◌^◌, [], length, MatchResult, OnErr, OnOk};
+ghost use Rattle.dt_patch.specs.Private.Cutting.{IsOpen, IsSpliced};
 ghost use Rattle.dt_patch.specs.Private.Gaps.{AreApart, IsGap, wanted};
 ghost use Rattle.dt_patch.specs.Private.Places.{put_at};
-ghost use Rattle.dt_patch.specs.Private.Splicing.{between};
+ghost use Rattle.dt_patch.specs.Private.Splicing.{IsRelaid, between, spliced};
 
+use crate::bytes::put;
 use crate::error::PatchError;
-use crate::layout::Layout;
+use crate::layout::{Layout, lay};
 
 /// A part of the structure block: from one offset up to another.
 #[derive(Clone, Copy)]
@@ -68,4 +70,30 @@ pub(crate) fn gap_of(plan: &Plan, size: usize, added: usize, room: usize) -> Res
             strings_size: layout.strings_size + added,
         },
     })
+}
+
+/// Fills a gap with bytes: what stands behind it is moved, and the header says where the blocks stand then.
+pub(crate) fn fill(blob: &mut [u8], gap: &Gap, new: &[u8])
+    requires { IsOpen gap.now (length new.now) (length blob.old) }
+    ensures { IsRelaid (spliced blob.old gap.now.at gap.now.next gap.now.end new.now []) blob.new gap.now.layout }
+{
+    shift(blob, gap.next, gap.end, gap.at + new.len());
+    put(blob, gap.at, new);
+    lay(blob, &gap.layout);
+}
+
+/// Puts bytes in the place of a plan's span. Fails with `Short`.
+pub(crate) fn splice(blob: &mut [u8], plan: &Plan, new: &[u8]) -> Result<(), PatchError>
+    requires apart { AreApart plan.now (length blob.old) }
+    requires header { 40 ≤ length blob.old }
+    requires few { length new.now ≤ 2 ^ 28 }
+    ensures made { OnOk result (IsSpliced blob.old plan.now new.now blob.new) }
+    ensures short { MatchResult result (λ _. wanted plan.now (length new.now) 0 ≤ length blob.old)
+        (λ e. (e ≡ PatchError.Short (wanted plan.now (length new.now) 0))
+        × (length blob.old < wanted plan.now (length new.now) 0)) }
+    ensures refused { OnErr result (blob.new ≡ blob.old) }
+{
+    let gap = gap_of(plan, new.len(), 0, blob.len())?;
+    fill(blob, &gap, new);
+    Ok(())
 }

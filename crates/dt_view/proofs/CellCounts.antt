@@ -1,7 +1,7 @@
 -- Cells of addresses and sizes, as far as they are read.
 use Rattle.std.proofs.Common.{◌≡◌, ℕ, List, Option, Some, None, refl, ap, sym, ◌∙◌}
 use Rattle.std.specs.Prelude.{codes, option_and_then}
-use Rattle.std.specs.Option.{option_copied, option_map}
+use Rattle.std.specs.Option.{option_map}
 use Rattle.dt_tree.specs.PathMap.{value_of}
 use Rattle.dt_tree.specs.declared.property.Property.{Property}
 use Rattle.dt_view.specs.declared.regions.RegCells.{RegCells}

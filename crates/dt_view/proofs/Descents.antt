@@ -2,6 +2,7 @@
 use Rattle.std.proofs.Common.{◌≡◌, ℕ, zero, suc, ◌+◌, Bool, true, false, List, [], ◌∷◌, ◌++◌, drop, Option, Some, None, refl, ap, sym, subst, ◌∙◌, arith, append_assoc, add-one}
 use Rattle.dt_tree.specs.declared.property.Property.{Property}
 use Rattle.dt_tree.specs.NodeData.{NodeData, Siblings, none, more}
+use Rattle.dt_blob.specs.Holds.{is_nop}
 use Rattle.dt_blob.specs.Token.{Token, begin_node, end_node, property, nop, end, property_tokens, sibling_tokens, tokens_of}
 use Rattle.dt_view.specs.declared.view.View.{View}
 use Rattle.dt_view.specs.Private.Reading.{Finds, Opens, StandsNothing, inside_tokens}
@@ -20,6 +21,7 @@ opens view from t name at next f e = record {
   reach = λ ts r.
       let p = f.reach ts r in
       (p.0, subst (λ (x : Token). Reached view next (ts ++ x ∷ [])) e (p.1));
+  starts = record { token = t; next = next; spelled = f.spelled; further = f.further; inside = f.inside; some = ap is_nop e };
   further = (let begins = f.begins in let further = f.further in omega (arith, begins, further));
   stands = subst (λ (x : Token). Ahead view from (x ∷ [])) e (f.back [] (record { all = []; front = []; behind = drop next view.structure.now; after = []; is = refl; spells = refl; kept = refl }));
 }

@@ -1,5 +1,5 @@
 -- What stands before the places that walks come to.
-use Rattle.std.proofs.Common.{◌≡◌, ℕ, zero, suc, ◌+◌, ◌<◌, ◌≤◌, Bool, true, false, List, [], ◌∷◌, ◌++◌, length, get_or, drop, Option, Some, None, refl, ap, sym, subst, ◌∙◌, arith, append_assoc, add-one}
+use Rattle.std.proofs.Common.{◌≡◌, ℕ, zero, suc, ◌+◌, ◌<◌, ◌≤◌, Bool, true, false, List, [], ◌∷◌, ◌++◌, length, get_or, drop, Option, Some, refl, ap, sym, subst, ◌∙◌, arith, append_assoc, add-one}
 use Rattle.std.specs.Prelude.{Result}
 use Rattle.std.proofs.lemmas.List.{append-nil, append_cancel_right, at_drop_more, at_drop_all}
 use Rattle.std.specs.Option.{option_map_or}
@@ -7,17 +7,17 @@ use Rattle.std.specs.Str.{bytes_eq}
 use Rattle.dt_tree.specs.declared.property.Property.{Property}
 use Rattle.dt_tree.specs.NodeData.{NodeData, Siblings, none, more}
 use Rattle.dt_tree.specs.PathMap.{child_named}
-use Rattle.dt_blob.specs.Token.{Token, begin_node, end_node, property, nop, end, property_tokens, sibling_tokens, tokens_of}
+use Rattle.dt_blob.specs.Token.{Token, begin_node, end_node, property, property_tokens, sibling_tokens, tokens_of}
 use Rattle.dt_view.specs.declared.error.ViewError.{ViewError}
 use Rattle.dt_view.specs.declared.nodes.NodeOffset.{NodeOffset}
 use Rattle.dt_view.specs.declared.view.View.{View}
 use Rattle.dt_view.specs.declared.properties.PlacedProperty.{PlacedProperty}
 use Rattle.dt_view.specs.Places.{IsPlaceOf}
 use Rattle.dt_view.specs.Placing.{TellsPlaced}
-use Rattle.dt_view.specs.Private.Reading.{Finds, StandsNothing, inside_tokens}
+use Rattle.dt_view.specs.Private.Reading.{Finds, inside_tokens}
 use Rattle.dt_view.specs.Reaching.{IsSpelled, Reached, TellsReached, before_child, before_node, before_property}
 use Rattle.dt_view.specs.Standing.{Ahead, StandsAt, ends, ends_properties}
-use Rattle.dt_view.proofs.Descents.{behind_begin, closed, closed_inside, regrouped, the_node}
+use Rattle.dt_view.proofs.Descents.{behind_begin, closed, closed_inside, the_node}
 
 -- ---- to the end of a node
 

@@ -1,6 +1,7 @@
 pub mod Aliases
 pub mod Cells
 pub mod Order
+pub mod Parents
 pub mod Places
 pub mod Placing
 pub mod Private

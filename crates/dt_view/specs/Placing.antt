@@ -1,5 +1,5 @@
 -- What is told of where a property stands.
-use Rattle.std.specs.Prelude.{◌≡◌, ℕ, ◌≤◌, ◌<◌, List, length, Option, Result, IfOk, IfSome, IsOkAnd}
+use Rattle.std.specs.Prelude.{ℕ, ◌≤◌, ◌<◌, List, length, Option, Result, IfOk, IfSome, IsOkAnd}
 use Rattle.dt_blob.specs.Token.{Token, property}
 use Rattle.dt_view.specs.declared.error.ViewError.{ViewError}
 use Rattle.dt_view.specs.declared.properties.PlacedProperty.{PlacedProperty}

@@ -1,6 +1,6 @@
 -- Which tokens stand before an offset of the structure block, and before a node and a property of a tree: Devicetree Specification
 -- v0.4, section 5.4.
-use Rattle.std.specs.Prelude.{◌≡◌, ℕ, ◌≤◌, ◌-◌, List, [], ◌∷◌, ◌++◌, length, take, drop, Option, Some, None, Result, IsOkAnd, IfSome, if◌then◌else◌}
+use Rattle.std.specs.Prelude.{◌≡◌, ℕ, ◌≤◌, ◌-◌, List, [], ◌∷◌, ◌++◌, length, take, drop, Option, Result, IsOkAnd, IfSome, if◌then◌else◌}
 use Rattle.std.specs.Option.{option_map_or}
 use Rattle.std.specs.Str.{bytes_eq}
 use Rattle.dt_tree.specs.declared.property.Property.{Property}

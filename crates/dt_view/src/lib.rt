@@ -8,6 +8,7 @@ mod finding;
 mod laws;
 mod nodes;
 mod ordering;
+mod parents;
 mod properties;
 mod regions;
 mod reserves;

@@ -1,5 +1,5 @@
 //! Walks from node to node.
-ghost use Rattle.std.specs.Prelude.{◌≡◌, ◌≤◌, ◌∷◌, ◌++◌, [], List, IfOk, IsOkAnd, true, ℕ};
+ghost use Rattle.std.specs.Prelude.{◌≡◌, ◌≤◌, ◌∷◌, ◌++◌, [], List, IfOk, IsOkAnd, length, true, ℕ};
 ghost use Rattle.dt_tree.specs.NodeData.{NodeData, Siblings, more};
 ghost use Rattle.dt_tree.specs.TreeData.{TreeData};
 ghost use Rattle.dt_tree.specs.declared.property.Property.{Property};
@@ -49,6 +49,7 @@ impl<'a> View<'a> {
             → Ahead self.now from (property_tokens ps ++ (sibling_tokens nodes ++ end_node ∷ ts)) → Reached self.now from before
             → IsOkAnd result (λ next. Reached self.now next (before ++ (property_tokens ps ++ (sibling_tokens nodes ++ end_node ∷ [])))) }
         ensures further { IfOk result (λ next. from ≤ next) }
+        ensures within { IfOk result (λ next. next ≤ length self.now.structure.now) }
     {
         let mut at = from;
         let mut levels = 0usize;

@@ -1,5 +1,5 @@
 //! Where what stands in a node ends: places at which a blob can be changed.
-ghost use Rattle.std.specs.Prelude.{◌≡◌, ◌≤◌, ◌∷◌, ◌++◌, [], List, IfOk, IsOkAnd, length, true};
+ghost use Rattle.std.specs.Prelude.{◌≡◌, ◌≤◌, ◌<◌, ◌∷◌, ◌++◌, [], List, IfOk, IsOkAnd, length, true};
 ghost use Rattle.dt_tree.specs.NodeData.{NodeData, Siblings};
 ghost use Rattle.dt_tree.specs.declared.property.Property.{Property};
 ghost use Rattle.dt_blob.specs.Token.{Token, begin_node, end_node, property_tokens, sibling_tokens, tokens_of};
@@ -42,5 +42,20 @@ impl<'a> View<'a> {
     {
         let begun = self.begin(node.at)?;
         self.properties_end_from(begun.next)
+    }
+
+    /// The offset behind the end of a node, with all below it.
+    pub fn behind(&self, node: NodeOffset) -> Result<usize, ViewError>
+        ensures reached { (d : NodeData) (before : List Token) → StandsAt self.now node.at d → Reached self.now node.at before
+            → IsOkAnd result (λ at. Reached self.now at (before ++ tokens_of d)) }
+        ensures further { IfOk result (λ at. node.at < at) }
+        ensures inside { IfOk result (λ at. at ≤ length self.now.structure.now) }
+        ensures refused { HasNoNode self.now node.at → result ≡ Err ViewError.BadOffset }
+    {
+        let begun = self.begin(node.at)?;
+        match self.node_end(begun.next) {
+            Ok(at) => Ok(at),
+            Err(_) => Err(ViewError::BadOffset),
+        }
     }
 }

@@ -1,7 +1,7 @@
 -- What a refusal of a change is told as.
 use Rattle.std.proofs.Common.{◌≡◌, ℕ, ap, arith}
 use Rattle.dt_patch.specs.declared.error.PatchError.{PatchError}
-use Rattle.dt_patch.specs.declared.error.PatchError.TheVariants.{BadName, BadPath, Blob, NoNode, NoProperty, OtherLength, Short, Unordered}
+use Rattle.dt_patch.specs.declared.error.PatchError.TheVariants.{BadName, BadPath, Blob, Exists, NoNode, NoProperty, OtherLength, Root, Short, TooDeep, Unordered}
 use Rattle.dtman_view_c.specs.declared.told.ViewTold.{ViewTold}
 use Rattle.dtman_view_c.specs.Told.{done, unchanged}
 
@@ -15,3 +15,6 @@ never OtherLength h = let bad : 10 ≡ 0 = ap (λ (t : ViewTold). t.status) h in
 never Unordered h = let bad : 11 ≡ 0 = ap (λ (t : ViewTold). t.status) h in omega (arith, bad)
 never BadName h = let bad : 13 ≡ 0 = ap (λ (t : ViewTold). t.status) h in omega (arith, bad)
 never (Short wanted) h = let bad : 12 ≡ 0 = ap (λ (t : ViewTold). t.status) h in omega (arith, bad)
+never Root h = let bad : 14 ≡ 0 = ap (λ (t : ViewTold). t.status) h in omega (arith, bad)
+never Exists h = let bad : 15 ≡ 0 = ap (λ (t : ViewTold). t.status) h in omega (arith, bad)
+never TooDeep h = let bad : 16 ≡ 0 = ap (λ (t : ViewTold). t.status) h in omega (arith, bad)

@@ -3,7 +3,7 @@ use Rattle.std.specs.Prelude.{◌≡◌, ℕ, List, Option, Some, None, Result, 
 use Rattle.dt_blob.specs.BlobError.{number_of}
 use Rattle.dt_blob.specs.declared.error.BlobError.{BlobError}
 use Rattle.dt_patch.specs.declared.error.PatchError.{PatchError}
-use Rattle.dt_patch.specs.declared.error.PatchError.TheVariants.{BadName, Blob, NoNode, NoProperty, OtherLength, Short, Unordered}
+use Rattle.dt_patch.specs.declared.error.PatchError.TheVariants.{BadName, Blob, Exists, NoNode, NoProperty, OtherLength, Root, Short, TooDeep, Unordered}
 use Rattle.dt_patch.specs.declared.error.PatchError.TheVariants as patch
 use Rattle.dt_view.specs.declared.error.ViewError.{ViewError}
 use Rattle.dt_view.specs.declared.error.ViewError.TheVariants.{BadOffset, BadPath}
@@ -49,6 +49,18 @@ short wanted = record { status = 12; number = 0; at = wanted }
 abbrev pub bad_name : ViewTold
 bad_name = record { status = 13; number = 0; at = 0 }
 
+-- the root isn't deleted
+abbrev pub is_root : ViewTold
+is_root = record { status = 14; number = 0; at = 0 }
+
+-- the node has a child of the name
+abbrev pub exists : ViewTold
+exists = record { status = 15; number = 0; at = 0 }
+
+-- the node stands at the greatest depth that a node can have
+abbrev pub too_deep : ViewTold
+too_deep = record { status = 16; number = 0; at = 0 }
+
 -- why a blob wasn't changed
 abbrev pub unchanged : PatchError → ViewTold
 unchanged (Blob error) = refused error
@@ -59,6 +71,9 @@ unchanged OtherLength = other_length
 unchanged Unordered = unordered
 unchanged BadName = bad_name
 unchanged (Short wanted) = short wanted
+unchanged Root = is_root
+unchanged Exists = exists
+unchanged TooDeep = too_deep
 
 abbrev pub edited : Option PatchError → ViewTold
 edited None = done 0

@@ -31,6 +31,15 @@ const SHORT: u32 = 12;
 /// What is added has no lawful name.
 const BAD_NAME: u32 = 13;
 
+/// The root isn't deleted.
+const ROOT: u32 = 14;
+
+/// The node has a child of the name.
+const EXISTS: u32 = 15;
+
+/// The node stands at the greatest depth.
+const TOO_DEEP: u32 = 16;
+
 /// How a call of a view ended, and the offset or the number that it tells.
 #[repr(C)]
 #[derive(Clone, Copy)]
@@ -88,6 +97,9 @@ pub(crate) fn unchanged(error: PatchError) -> ViewTold
         PatchError::Unordered => ended(UNORDERED, 0, 0),
         PatchError::BadName => ended(BAD_NAME, 0, 0),
         PatchError::Short(wanted) => ended(SHORT, 0, wanted),
+        PatchError::Root => ended(ROOT, 0, 0),
+        PatchError::Exists => ended(EXISTS, 0, 0),
+        PatchError::TooDeep => ended(TOO_DEEP, 0, 0),
     }
 }
 

@@ -1,13 +1,16 @@
 //! Walks over a view.
-ghost use Rattle.std.specs.Prelude.{◌≡◌, ◌∷◌, List, ℕ};
+ghost use Rattle.std.specs.Prelude.{◌≡◌, ◌∷◌, ◌++◌, [], List, length, ℕ};
 ghost use Rattle.dt_tree.specs.NodeData.{NodeData, Siblings, more};
 ghost use Rattle.dt_tree.specs.declared.property.Property.{Property};
+ghost use Rattle.dt_tree.specs.TreeData.{TreeData};
 ghost use Rattle.dt_view.specs.Order.{StandsIn, TellsNext};
+ghost use Rattle.dt_view.specs.Parents.{IsAt, TellsAt};
+ghost use Rattle.dt_view.specs.Shows.{Views};
 ghost use Rattle.dt_view.specs.Standing.{HasNoNode, HasNoProperty, PropertiesFrom, StandFrom, StandsAt};
-ghost use Rattle.dtman_view_c.specs.Told.{TellsNode, TellsProperty, bad_offset};
+ghost use Rattle.dtman_view_c.specs.Told.{TellsNode, TellsProperty, bad_offset, done, nothing};
 ghost use Rattle.dt_view.specs.Places.{TellsNodes, TellsProperties};
 
-use crate::told::{ViewTold, node_told, property_told};
+use crate::told::{ViewTold, done, failed, node_told, property_told};
 use dt_view::{NodeOffset, PropertyOffset, View};
 
 /// The first child of a node.
@@ -38,6 +41,30 @@ pub extern "C" fn dtman_view_next_node(view: &View<'_>, node: usize) -> ViewTold
     ensures refused { HasNoNode view.now node → result ≡ bad_offset }
 {
     node_told(view.next_node(NodeOffset { at: node }))
+}
+
+/// The parent of a node.
+#[unsafe(no_mangle)]
+pub extern "C" fn dtman_view_parent(view: &View<'_>, node: usize) -> ViewTold
+    ensures root { (tree : TreeData) → Views view.now tree → IsAt view.now tree.root [] node → result ≡ nothing }
+    ensures below { TellsNode (λ answer. (tree : TreeData) (path : List (List ℕ)) (name : List ℕ) → Views view.now tree
+        → IsAt view.now tree.root (path ++ name ∷ []) node → TellsAt view.now tree.root path answer) result }
+    ensures refused { HasNoNode view.now node → result ≡ bad_offset }
+{
+    node_told(view.parent(NodeOffset { at: node }))
+}
+
+/// How many nodes are round a node.
+#[unsafe(no_mangle)]
+pub extern "C" fn dtman_view_depth(view: &View<'_>, node: usize) -> ViewTold
+    ensures stands { (tree : TreeData) (path : List (List ℕ)) → Views view.now tree → IsAt view.now tree.root path node
+        → result ≡ done (length path) }
+    ensures refused { HasNoNode view.now node → result ≡ bad_offset }
+{
+    match view.depth(NodeOffset { at: node }) {
+        Ok(depth) => done(depth),
+        Err(error) => failed(error),
+    }
 }
 
 /// The first property of a node.

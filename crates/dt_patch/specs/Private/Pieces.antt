@@ -1,5 +1,5 @@
 -- What is written into the structure block: Devicetree Specification v0.4, section 5.4.1.
-use Rattle.std.specs.Prelude.{ℕ, ◌+◌, List, ◌∷◌, ◌++◌, length}
+use Rattle.std.specs.Prelude.{ℕ, List, ◌++◌, length}
 use Rattle.dt_blob.specs.BigEndian.{word}
 use Rattle.dt_blob.specs.Blob.{padding}
 

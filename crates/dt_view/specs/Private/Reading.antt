@@ -34,11 +34,21 @@ pub record Finds (view : View) (from : ℕ) (t : Token) (at next : ℕ) : Type 0
   pub further : at < next
   pub inside : next ≤ length view.structure.now
 
+-- a token that is no NOP begins right there
+pub record Starts (view : View) (at : ℕ) : Type 0 where
+  pub token : Token
+  pub next : ℕ
+  pub spelled : IsSpelled view at token next
+  pub further : at < next
+  pub inside : next ≤ length view.structure.now
+  pub some : is_nop token ≡ false
+
 -- a node of this name begins there
 pub record Opens (view : View) (from : ℕ) (name : List ℕ) (at next : ℕ) : Type 0 where
   pub ahead : (n : List ℕ) (us : List Token) → Ahead view from (begin_node n ∷ us) → (name ≡ n) × Ahead view at (begin_node n ∷ us) × Ahead view next us
   pub stands : Ahead view from (begin_node name ∷ [])
   pub reach : (ts : List Token) → Reached view from ts → Reached view at ts × Reached view next (ts ++ begin_node name ∷ [])
+  pub starts : Starts view at
   pub further : from < next
 
 -- a property stands there, and ends at an offset

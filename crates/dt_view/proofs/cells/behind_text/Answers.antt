@@ -1,4 +1,4 @@
-use Rattle.std.proofs.Common.{◌≡◌, ◌+◌, List, ℕ, Option, Some, ap, sym, ◌∙◌, drop}
+use Rattle.std.proofs.Common.{◌+◌, ℕ, Option, Some, ap, ◌∙◌, drop}
 use Rattle.std.specs.Option.{option_map}
 use Rattle.std.proofs.lemmas.List.{drop-drop}
 use Rattle.dt_view.proofs.cells.behind_text.Goals as goal

@@ -1,7 +1,6 @@
-use Rattle.std.proofs.Common.{◌≡◌, ◌+◌, ◌-◌, refl, false, true, ◌&&◌, ◌==◌, Some, sym, subst, ap, ◌∙◌, arith, length, length-drop, drop, List, ℕ}
+use Rattle.std.proofs.Common.{◌≡◌, ◌+◌, ◌-◌, false, true, ◌&&◌, ◌==◌, Some, sym, subst, ap, ◌∙◌, arith, length, length-drop, drop, List, ℕ}
 use Rattle.std.proofs.lemmas.Bool.Decides.{nat_tests}
 use Rattle.byteorder.specs.Endian.{big_number}
-use Rattle.dt_blob.specs.Holds.{Reserves}
 use Rattle.dt_view.specs.Reserved.{reserved_size}
 use Rattle.dt_view.proofs.Pairs.{Sized, sized_short, sized_end, sized_some}
 use Rattle.dt_view.proofs.reserves.reserved_size_in.Goals as goal

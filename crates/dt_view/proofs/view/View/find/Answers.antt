@@ -1,11 +1,8 @@
-use Rattle.std.proofs.Common.{◌≡◌, ℕ, ◌≤◌, ◌-◌, ◌==◌, false, List, [], ◌∷◌, length, take, drop, refl, ap, sym, ◌∙◌, arith, subst}
+use Rattle.std.proofs.Common.{◌≡◌, ℕ, ◌≤◌, ◌-◌, ◌==◌, false, List, [], ◌∷◌, length, take, drop, refl, ap, sym, ◌∙◌, arith}
 use Rattle.std.specs.List.{slice_split}
 use Rattle.std.proofs.lemmas.List.{take_all}
 use Rattle.dt_tree.specs.Path.{is_slash, path_names}
-use Rattle.dt_blob.specs.Token.{Token}
 use Rattle.dt_blob.proofs.Tests.{test_unequal}
-use Rattle.dt_view.specs.Reaching.{TellsReached, before_node}
-use Rattle.dt_view.proofs.Reaches.{reached_begin}
 use Rattle.dt_view.proofs.view.View.find.Goals as goal
 
 names_from : (path : List ℕ) → 2 ≤ length path → slice_split is_slash (take (length path - 1) (drop 1 path)) ≡ path_names path
