@@ -68,6 +68,7 @@ try_arena() {
 	"$@" "$built/overlay" "$work/board.dtb" "$work/hat.dtb" "$work/arguments.dtb" "$built/out.dtb" >"$built/taken" || fail "$name: examples/c/overlay ends otherwise"
 	grep -qE '^[0-9]+ bytes at most were taken of the arena$' "$built/taken" || fail "$name: examples/c/overlay says something else"
 	cmp "$built/out.dtb" "$work/overlaid.dtb" || fail "$name: examples/c/overlay makes another blob than the program"
+	"$@" "$built/edits" | diff examples/c/edits.txt - || fail "$name: examples/c/edits says something else"
 	"$@" "$built/mutated" examples/sensor-board.dtb "$mutations" | diff "$work/mutations" - || fail "$name: examples/c/mutated ends otherwise"
 }
 
@@ -90,7 +91,6 @@ try_c() {
 	make -s -C examples/c OUT="$built" CC="$compiler" CFLAGS="$flags" || fail "$name: the examples aren't built"
 	"$@" "$built/calls" | diff examples/c/calls.txt - || fail "$name: examples/c/calls says something else"
 	"$@" "$built/bus" examples/sensor-board.plan | diff "$work/report" - || fail "$name: examples/c/bus ends with another report"
-	"$@" "$built/edits" | diff examples/c/edits.txt - || fail "$name: examples/c/edits says something else"
 	try_arena "$name" "$built" "$@"
 	# the arena by itself, with what makes pointers of it built by the compiler's flags, too
 	# shellcheck disable=SC2086
