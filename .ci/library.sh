@@ -129,7 +129,7 @@ fi
 
 # Neither the view nor, over an arena, the engines want a libc.
 if [ ${#compilers[@]} -gt 0 ] && [ "$(uname -sm)" = "Linux x86_64" ]; then
-	make -s -C examples/c OUT="$work" CC="${compilers[0]}" bare
+	make -s -C examples/c OUT="$work" CC="${compilers[0]}" freestanding
 	try_bare "without libc" "$work"
 	echo "library: the examples without libc end as they should"
 fi
@@ -138,7 +138,7 @@ fi
 if [ ${#compilers[@]} -gt 0 ] && has aarch64-linux-gnu-gcc "nothing is built for aarch64" && has qemu-aarch64 "nothing is tried for aarch64"; then
 	mkdir -p "$work/aarch64"
 	TARGET=aarch64-unknown-linux-gnu .ci/library
-	make -s -C examples/c OUT="$work/aarch64" CC=aarch64-linux-gnu-gcc CFLAGS="-O2 -static" TARGET=-aarch64 arena bare
+	make -s -C examples/c OUT="$work/aarch64" CC=aarch64-linux-gnu-gcc CFLAGS="-O2 -static" TARGET=-aarch64 arena freestanding
 	mutations=1000
 	"$work/${compilers[0]// /-}/mutated" examples/sensor-board.dtb 1000 >"$work/mutations"
 	try_arena aarch64 "$work/aarch64" qemu-aarch64

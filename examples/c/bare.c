@@ -1,5 +1,5 @@
 /*
- * A blob's property found without libc, memory or a system, as before a boot loader has any: `make bare` links this with nothing but
+ * A blob's property found without libc, memory or a system, as before a boot loader has any: `make freestanding` links this with nothing but
  * libdtman_view.a. It ends with the cell that the root's property `a` has, or with 255.
  */
 #include "dtman_view.h"

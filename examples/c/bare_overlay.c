@@ -1,5 +1,5 @@
 /*
- * Two sources compiled and one applied to the other in static buffers, without libc, heap or a system: `make bare` links this with nothing
+ * Two sources compiled and one applied to the other in static buffers, without libc, heap or a system: `make freestanding` links this with nothing
  * but libdtman_arena.a and libdtman_view.a. It ends with the cell that the overlay set, or with 255; before that it sees that an arena of
  * no bytes is told as want of memory.
  */

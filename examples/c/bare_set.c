@@ -1,6 +1,6 @@
 /*
  * The boot arguments of a blob in a static buffer set in place, and a property added in the room behind it, without libc, memory or a
- * system, as before a boot loader has any: `make bare` links this with nothing but libdtman_view.a. It ends with the last digit of what the
+ * system, as before a boot loader has any: `make freestanding` links this with nothing but libdtman_view.a. It ends with the last digit of what the
  * blob then has, or with 255.
  */
 #include "dtman_view.h"
