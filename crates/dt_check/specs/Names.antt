@@ -48,7 +48,7 @@ before_last v = if length v == 0 then v else take (length v - 1) v
 abbrev pub name_fault : HereData → Option FaultData
 name_fault here =
     option_and_then
-    (λ v. if bytes_eq (before_last v) (base_name here.node.name) then None else Some (of_property (codes "name") WrongName))
+    (λ v. if bytes_eq (before_last v) (base_name here.node.name) then None else Some (of_node WrongName))
     (value_of here.node.properties (codes "name"))
 
 abbrev pub property_byte_fault : Property → Option FaultData

@@ -56,7 +56,7 @@ pub fn bridge_address_fault(here: &Here<'_>, bus: Bus) -> Option<Fault<'static>>
     ensures { result ≡ bridge_address_fault bus here.now }
 {
     let node = here.node();
-    if !is_bridge(node, bus) || !is_used(node, bus) {
+    if !is_used(node, bus) || !is_bridge(node, bus) {
         return None;
     }
     if address_cells(node) == wanted_address(node, bus) {
@@ -70,7 +70,7 @@ pub fn bridge_size_fault(here: &Here<'_>, bus: Bus) -> Option<Fault<'static>>
     ensures { result ≡ bridge_size_fault bus here.now }
 {
     let node = here.node();
-    if !is_bridge(node, bus) || !is_used(node, bus) {
+    if !is_used(node, bus) || !is_bridge(node, bus) {
         return None;
     }
     if size_cells(node) == wanted_size(bus) {

@@ -40,7 +40,8 @@ pub fn is_simple(node: &Node) -> bool
 pub fn is_i2c(node: &Node) -> bool
     ensures { result ≡ is_i2c node.now }
 {
-    is_called(node, b"i2c-bus") || is_called(node, b"i2c-arb") || is_called(node, b"i2c")
+    let name = base_name(node.name_bytes());
+    is_same(name, b"i2c-bus") || is_same(name, b"i2c-arb") || is_same(name, b"i2c")
 }
 
 fn starts_spi(name: &[u8]) -> bool
@@ -73,7 +74,8 @@ fn any_spi(nodes: &[Node]) -> bool
 pub fn is_spi_like(node: &Node) -> bool
     ensures { result ≡ is_spi_like node.now }
 {
-    !is_called(node, b"spi")
+    !children(node).is_empty()
+        && !is_called(node, b"spi")
         && address_cells(node) == 1
         && size_cells(node) == 0
         && any_spi(children(node))

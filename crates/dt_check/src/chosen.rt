@@ -109,11 +109,11 @@ pub fn ends_with(name: &[u8], end: &[u8]) -> bool
 pub fn is_gpio(name: &[u8]) -> bool
     ensures { result ≡ is_gpio name.now }
 {
-    !ends_with(name, b",nr-gpios")
-        && (ends_with(name, b"-gpios")
-            || is_same(name, b"gpios")
-            || ends_with(name, b"-gpio")
-            || is_same(name, b"gpio"))
+    (ends_with(name, b"-gpios")
+        || is_same(name, b"gpios")
+        || ends_with(name, b"-gpio")
+        || is_same(name, b"gpio"))
+        && !ends_with(name, b",nr-gpios")
 }
 
 /// `gpio` in place of `gpios`.

@@ -12,6 +12,7 @@ mod chosen;
 mod fault;
 mod here;
 mod lost;
+mod marks;
 mod message;
 mod names;
 mod pci;

@@ -118,7 +118,7 @@ pub fn name_fault(here: &Here<'_>) -> Option<Fault<'static>>
     ) {
         return None;
     }
-    Some(Fault::of_property(b"name", Message::WrongName))
+    Some(Fault::of_node(Message::WrongName))
 }
 
 /// A byte that can't stand in a property's name.

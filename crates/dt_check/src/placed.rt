@@ -1,5 +1,6 @@
 //! A node of a tree in preorder.
 use crate::buses::is_spi;
+use crate::marks::Marks;
 use crate::ports::is_port;
 use dt_tree::Node;
 use std::marker::Model;
@@ -13,6 +14,8 @@ pub struct Placed<'t> {
     port: bool,
     // whether it is an SPI bus: the same
     spi: bool,
+    // the names that its properties may have
+    marks: Marks,
 }
 
 impl<'t> Model for Placed<'t> {
@@ -20,6 +23,7 @@ impl<'t> Model for Placed<'t> {
     ghost use Rattle.dt_check.specs.Nodes.{PlacedData, coded_placed};
     ghost use Rattle.dt_check.specs.Buses.{is_spi};
     ghost use Rattle.dt_check.specs.Ports.{is_port};
+    ghost use Rattle.dt_check.specs.Private.Marks.{AreMarked};
 
     ghost Value = { PlacedData };
 
@@ -27,13 +31,16 @@ impl<'t> Model for Placed<'t> {
 
     ghost view = { λ p. record { node = p.node.now; above = p.above } };
 
-    ghost invariant = { λ p. (p.port ≡ is_port p.node.now) × (p.spi ≡ is_spi p.node.now) };
+    ghost invariant = { λ p. (p.port ≡ is_port p.node.now) × (p.spi ≡ is_spi p.node.now)
+        × AreMarked p.node.now.properties p.marks.classes };
 }
 
 impl<'t> Placed<'t> {
     ghost use Rattle.std.specs.Prelude.{◌≡◌};
     ghost use Rattle.dt_check.specs.Buses.{is_spi};
     ghost use Rattle.dt_check.specs.Ports.{is_port};
+    ghost use Rattle.std.specs.Prelude.{false};
+    ghost use Rattle.dt_check.specs.Cells.{has};
 
     /// The node at its place.
     pub fn new(node: &'t Node, above: Option<usize>) -> Self
@@ -44,6 +51,7 @@ impl<'t> Placed<'t> {
             above,
             port: is_port(node),
             spi: is_spi(node),
+            marks: Marks::of(node.properties()),
         }
     }
 
@@ -67,10 +75,18 @@ impl<'t> Placed<'t> {
     {
         self.port
     }
+
     /// Whether the node is an SPI bus.
     pub fn is_spi(&self) -> bool
         ensures { result ≡ is_spi self.now.node }
     {
         self.spi
+    }
+
+    /// Whether the node may have a property of this name: a quick look.
+    pub fn may_have(&self, name: &[u8]) -> bool
+        ensures { result ≡ false → has self.now.node.properties name.now ≡ false }
+    {
+        self.marks.may_have(name)
     }
 }

@@ -21,7 +21,7 @@ pub fn default_fault(here: &Here<'_>, name: &[u8], message: Message) -> Option<F
     let Some(above) = here.above() else {
         return None;
     };
-    if !is_addressed(here.node()) || has(above, name) {
+    if has(above, name) || !is_addressed(here.node()) {
         return None;
     }
     Some(Fault::of_node(message))

@@ -1,7 +1,7 @@
 //! Unit addresses (Devicetree Specification v0.4, section 2.2.1.1).
 ghost use Rattle.std.specs.Prelude.{◌≡◌};
 ghost use Rattle.std.specs.List.{list_any};
-ghost use Rattle.dt_check.specs.UnitRules.{is_overlay, has_overlay, has_address, unit_fault, unit_of, leading_hex, without_hex, is_hex_digit, leading_zero, hex_fault, zero_fault};
+ghost use Rattle.dt_check.specs.UnitRules.{is_overlay, has_overlay, has_address, unit_fault, is_own, leading_hex, without_hex, is_hex_digit, leading_zero, hex_fault, zero_fault};
 
 use crate::buses::{is_pci, is_simple};
 use crate::fault::Fault;
@@ -59,16 +59,14 @@ pub fn unit_fault(here: &Here<'_>) -> Option<Fault<'static>>
     Some(Fault::of_node(Message::NoUnit))
 }
 
-// The unit address, where the bus above doesn't say how it is written.
-fn unit_of<'t>(here: &Here<'t>) -> &'t [u8]
-    ensures { result.now ≡ unit_of here.now }
+// Whether the bus above says how the unit address is written.
+fn is_own(here: &Here<'_>) -> bool
+    ensures { result ≡ is_own here.now }
 {
-    if let Some(above) = here.above() {
-        if is_pci(above) || is_simple(above) {
-            return &[];
-        }
+    match here.above() {
+        None => false,
+        Some(above) => is_pci(above) || is_simple(above),
     }
-    unit_address(here.node().name_bytes())
 }
 
 fn leading_hex(unit: &[u8]) -> bool
@@ -105,7 +103,8 @@ fn leading_zero(unit: &[u8]) -> bool
 pub fn hex_fault(here: &Here<'_>) -> Option<Fault<'static>>
     ensures { result ≡ hex_fault here.now }
 {
-    if leading_hex(unit_of(here)) {
+    let unit = unit_address(here.node().name_bytes());
+    if leading_hex(unit) && !is_own(here) {
         return Some(Fault::of_node(Message::LeadingHex));
     }
     None
@@ -115,7 +114,8 @@ pub fn hex_fault(here: &Here<'_>) -> Option<Fault<'static>>
 pub fn zero_fault(here: &Here<'_>) -> Option<Fault<'static>>
     ensures { result ≡ zero_fault here.now }
 {
-    if leading_zero(without_hex(unit_of(here))) {
+    let unit = unit_address(here.node().name_bytes());
+    if leading_zero(without_hex(unit)) && !is_own(here) {
         return Some(Fault::of_node(Message::LeadingZero));
     }
     None

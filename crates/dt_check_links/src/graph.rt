@@ -78,7 +78,7 @@ pub fn single_child_fault(here: &Here<'_>) -> Option<Fault<'static>>
     ensures { result ≡ single_child_fault here.now }
 {
     let node = here.node();
-    if !(here.is_port() || is_ports(node)) || !is_single(node) {
+    if !is_single(node) || !(here.is_port() || is_ports(node)) {
         return None;
     }
     Some(Fault::of_node(Message::SingleChild))

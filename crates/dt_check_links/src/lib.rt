@@ -13,7 +13,7 @@ pub use aliases::alias_fault;
 pub use endpoint::{Remote, far_fault, near_fault, one_way_fault};
 pub use graph::{
     graph_address_fault, graph_name_fault, graph_reg_fault, graph_size_fault, graph_unit_fault,
-    single_child_fault,
+    is_of, single_child_fault,
 };
 pub use interrupts::{Way, cells_fault, length_fault, missing_fault, search, search_fault};
 pub use link::LinkFault;

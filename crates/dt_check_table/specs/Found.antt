@@ -1,13 +1,16 @@
 -- What a check finds in a tree, but for nodes side by side with one unit address and unknown properties: node by node in preorder, in each node rule by rule, or property by property.
-use Rattle.std.specs.Prelude.{ℕ, ◌+◌, false, not, codes, if◌then◌else◌, List, [], ◌∷◌, ◌++◌, Option, Some, None, option_and_then}
+use Rattle.std.specs.Prelude.{ℕ, ◌+◌, Bool, true, false, not, ◌||◌, codes, if◌then◌else◌, List, [], ◌∷◌, ◌++◌, Option, Some, None, option_and_then}
 use Rattle.dt_tree.specs.declared.property.Property.{Property}
 use Rattle.dt_check.specs.Cells.{has}
 use Rattle.dt_check.specs.Chosen.{is_gpio, is_named}
 use Rattle.dt_check.specs.Fault.{FaultData}
 use Rattle.dt_check.specs.Nodes.{PlacedData, HereData, here_of, node_at}
 use Rattle.dt_check_links.specs.Aliases.{alias_fault}
+use Rattle.dt_check_links.specs.Graph.{is_of}
 use Rattle.dt_check_links.specs.Link.{LinkFaultData}
 use Rattle.dt_check_links.specs.Lists.{ListingData, list_fault}
+use Rattle.dt_check_table.specs.declared.check.Among.{Among}
+use Rattle.dt_check_table.specs.declared.check.Among.TheVariants.{All, With, WithEither, Part}
 use Rattle.dt_check_table.specs.declared.check.Finds.{Finds}
 use Rattle.dt_check_table.specs.declared.check.Finds.TheVariants.{Nothing, Units, Unknown, Node, Properties, Links, Gpios, Aliases}
 use Rattle.dt_check_table.specs.declared.rule.LinkRule.{LinkRule}
@@ -55,14 +58,23 @@ abbrev pub found_aliases : ℕ → List PlacedData → ℕ → List Property →
 found_aliases check nodes place [] = []
 found_aliases check nodes place (p ∷ ps) = added check place (alias_fault_in nodes p) ++ found_aliases check nodes place ps
 
+-- whether a check of these nodes looks at one
+abbrev pub is_among : Among → HereData → Bool
+is_among All here = true
+is_among (With name) here = has here.node.properties name.now
+is_among (WithEither name other) here = has here.node.properties name.now || has here.node.properties other.now
+is_among (Part kind) here = is_of kind here
+
 -- in one node; the lines of a hog are no list
 abbrev pub found_here : ℕ → Finds → List PlacedData → ℕ → HereData → List FindingData
 found_here check Nothing nodes place here = []
 found_here check (Units counted) nodes place here = []
 found_here check Unknown nodes place here = []
-found_here check (Node rules) nodes place here = found_by_rules check place here rules.now
+found_here check (Node among rules) nodes place here =
+    if is_among among here then found_by_rules check place here rules.now else []
 found_here check (Properties rule) nodes place here = found_in_properties check place rule here.node.properties
-found_here check (Links rules) nodes place here = found_by_links check nodes place here rules.now
+found_here check (Links among rules) nodes place here =
+    if is_among among here then found_by_links check nodes place here rules.now else []
 found_here check Gpios nodes place here =
     if has here.node.properties (codes "gpio-hog") then [] else found_lines check nodes place here.node.properties
 found_here check Aliases nodes place here =

@@ -1,4 +1,5 @@
 pub mod Finding
 pub mod Found
 pub mod Rules
+pub mod Run
 pub mod Selected

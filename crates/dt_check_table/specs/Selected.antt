@@ -4,6 +4,7 @@
 use Rattle.std.specs.Prelude.{ℕ, ◌+◌, Bool, true, false, not, ◌||◌, ◌==◌, if◌then◌else◌, List, [], ◌∷◌, Option, Some, None}
 use Rattle.std.specs.Option.{option_map_or}
 use Rattle.std.specs.List.{slice_get, list_any}
+use Rattle.dt_check_table.specs.declared.check.Check.{Check}
 use Rattle.dt_check_table.specs.declared.check.Severity.{Severity}
 use Rattle.dt_check_table.specs.declared.check.Severity.TheVariants.{Off, Warning, Error}
 use Rattle.dt_check_table.specs.declared.selection.Change.{Change}
@@ -12,10 +13,9 @@ use Rattle.dt_check_table.specs.declared.selection.Kind.TheVariants.{Warning as 
 use Rattle.dt_check_table.specs.declared.selection.Least.{Least}
 use Rattle.dt_check_table.specs.declared.selection.Least.TheVariants.{Warning as AtLeastWarning, Error as AtLeastError}
 use Rattle.dt_check_table.specs.declared.selection.Level.{Level}
-use Rattle.dt_check_table.specs.declared.selection.Entry.{Entry}
 
 pub record SelectionData : Type 0 where
-  pub entries : List Entry
+  pub rows : List Check
   pub levels : List Level
 
 -- ---- by default
@@ -24,7 +24,7 @@ usual Off = record { warns = false; fails = false }
 usual Warning = record { warns = true; fails = false }
 usual Error = record { warns = false; fails = true }
 
-abbrev pub usual_levels : List Entry → List Level
+abbrev pub usual_levels : List Check → List Level
 usual_levels [] = []
 usual_levels (r ∷ rs) = usual r.severity ∷ usual_levels rs
 
@@ -35,14 +35,14 @@ level_at ls place = option_map_or (λ l. l) (slice_get ls place) (usual Off)
 abbrev pub is_among : List ℕ → ℕ → Bool
 is_among places wanted = list_any (λ place. place == wanted) places
 
-abbrev pub stands_on : List Entry → ℕ → ℕ → Bool
-stands_on entries one other = option_map_or (λ r. is_among r.made_before.now other) (slice_get entries one) false
+abbrev pub stands_on : List Check → ℕ → ℕ → Bool
+stands_on rows one other = option_map_or (λ r. is_among r.made_before.now other) (slice_get rows one) false
 
-abbrev pub goes_along : List Entry → Change → ℕ → Bool
-goes_along entries c place = if c.on then stands_on entries c.check place else stands_on entries place c.check
+abbrev pub goes_along : List Check → Change → ℕ → Bool
+goes_along rows c place = if c.on then stands_on rows c.check place else stands_on rows place c.check
 
-abbrev pub goes : List Entry → Change → ℕ → Bool
-goes entries c place = place == c.check || goes_along entries c place
+abbrev pub goes : List Check → Change → ℕ → Bool
+goes rows c place = place == c.check || goes_along rows c place
 
 abbrev pub level_with : Kind → Bool → Level → Level
 level_with ByWarning on l = record { warns = on; fails = l.fails }
@@ -52,13 +52,13 @@ abbrev pub is_so : Kind → Level → Bool
 is_so ByWarning l = l.warns
 is_so ByError l = l.fails
 
-abbrev pub changed_at : List Entry → Change → ℕ → Level → Level
-changed_at entries c place l = if goes entries c place then level_with c.kind c.on l else l
+abbrev pub changed_at : List Check → Change → ℕ → Level → Level
+changed_at rows c place l = if goes rows c place then level_with c.kind c.on l else l
 
 -- the levels from this place on
-abbrev pub changed_from : List Entry → Change → ℕ → List Level → List Level
-changed_from entries c place [] = []
-changed_from entries c place (l ∷ ls) = changed_at entries c place l ∷ changed_from entries c (place + 1) ls
+abbrev pub changed_from : List Check → Change → ℕ → List Level → List Level
+changed_from rows c place [] = []
+changed_from rows c place (l ∷ ls) = changed_at rows c place l ∷ changed_from rows c (place + 1) ls
 
 -- what is so already stays as it is, with all that goes along
 abbrev pub is_done : List Level → Change → Bool
@@ -67,7 +67,7 @@ is_done ls c = if c.on then is_so c.kind (level_at ls c.check) else not (is_so c
 abbrev pub changed : Change → SelectionData → SelectionData
 changed c s =
     if is_done s.levels c then s
-    else record { entries = s.entries; levels = changed_from s.entries c 0 s.levels }
+    else record { rows = s.rows; levels = changed_from s.rows c 0 s.levels }
 
 -- ---- what is asked for
 abbrev pub is_asked : Least → Level → Bool

@@ -2,6 +2,7 @@
 
 use crate::rule::{LinkRule, PropertyRule, Rule};
 use crate::units::Counted;
+use dt_check::Graph;
 
 /// What a mistake comes to, where nothing else is said.
 #[derive(Clone, Copy, Debug, PartialEq, Eq)]
@@ -10,6 +11,18 @@ pub enum Severity {
     Off,
     Warning,
     Error,
+}
+
+/// Which nodes a check looks at.
+#[derive(Clone, Copy, Debug)]
+pub enum Among {
+    All,
+    /// Those with a property of this name.
+    With(&'static [u8]),
+    /// Those with a property of either name.
+    WithEither(&'static [u8], &'static [u8]),
+    /// The ports of graphs, or the endpoints.
+    Part(Graph),
 }
 
 /// What a check looks for.
@@ -21,12 +34,12 @@ pub enum Finds {
     Units(Counted),
     /// Properties that no reference set has: by `find_unknown`.
     Unknown,
-    /// In each node, one rule after the other.
-    Node(&'static [Rule]),
+    /// In each of these nodes, one rule after the other.
+    Node(Among, &'static [Rule]),
     /// In each property.
     Properties(PropertyRule),
-    /// In each node and those that it leads to, one rule after the other.
-    Links(&'static [LinkRule]),
+    /// In each of these nodes and those that it leads to, one rule after the other.
+    Links(Among, &'static [LinkRule]),
     /// In each list of lines of GPIO controllers.
     Gpios,
     /// In each alias.

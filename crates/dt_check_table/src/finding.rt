@@ -1,6 +1,6 @@
 //! What a check found.
 ghost use Rattle.std.specs.Prelude.{◌≡◌};
-ghost use Rattle.dt_check_table.specs.Finding.{finding};
+ghost use Rattle.dt_check_table.specs.Finding.{finding, failed_prerequisite};
 
 use dt_check::{Fault, Message};
 use std::marker::Model;
@@ -38,7 +38,9 @@ impl<'t> Finding<'t> {
     }
 
     /// A prerequisite of the check didn't pass.
-    pub fn of_prerequisite(check: usize, prerequisite: usize) -> Self {
+    pub fn of_prerequisite(check: usize, prerequisite: usize) -> Self
+        ensures { result ≡ failed_prerequisite check prerequisite }
+    {
         Self {
             check,
             node: None,

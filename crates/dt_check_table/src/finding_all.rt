@@ -1,12 +1,14 @@
 //! What a check finds in a tree.
-ghost use Rattle.std.specs.Prelude.{◌≡◌, ◌++◌, OnOk};
-ghost use Rattle.dt_check_table.specs.Found.{added, added_link, found_by_rules, found_in_properties, found_by_links, lines_fault, found_lines, alias_fault_in, found_aliases, found_here, found_from, found};
+ghost use Rattle.std.specs.Prelude.{◌≡◌, ◌++◌, [], false, ℕ, List, Option, OnOk};
+ghost use Rattle.dt_tree.specs.NodeData.{NodeData};
+ghost use Rattle.dt_check.specs.Nodes.{PlacedData, here_of};
+ghost use Rattle.dt_check_table.specs.Found.{added, added_link, found_by_rules, found_in_properties, found_by_links, lines_fault, found_lines, alias_fault_in, found_aliases, is_among, found_here, found_from, found};
 
-use crate::check::Finds;
+use crate::check::{Among, Finds};
 use crate::finding::Finding;
 use crate::rule::{LinkRule, PropertyRule, Rule};
-use dt_check::{Fault, Here, Placed, Survey, has, is_gpio, is_named};
-use dt_check_links::{LinkFault, Listing, alias_fault, list_fault};
+use dt_check::{Fault, Graph, Here, Placed, Survey, has, is_gpio, is_named};
+use dt_check_links::{LinkFault, Listing, alias_fault, is_of, list_fault};
 use dt_tree::Property;
 use std::alloc::AllocError;
 
@@ -148,6 +150,18 @@ fn find_aliases<'t>(
     Ok(())
 }
 
+// Whether a check of these nodes looks at one.
+fn is_among(here: &Here<'_>, among: Among) -> bool
+    ensures { result ≡ is_among among here.now }
+{
+    match among {
+        Among::All => true,
+        Among::With(name) => has(here.node(), name),
+        Among::WithEither(name, other) => has(here.node(), name) || has(here.node(), other),
+        Among::Part(kind) => is_of(here, kind),
+    }
+}
+
 // What it finds in a node: a hog's lines are its own, and no list.
 fn find_here<'t>(
     findings: &mut Vec<Finding<'t>>,
@@ -163,11 +177,21 @@ fn find_here<'t>(
     let node = here.node();
     match finds {
         Finds::Nothing | Finds::Units(_) | Finds::Unknown => Ok(()),
-        Finds::Node(rules) => find_by_rules(findings, check, rules, here, place),
+        Finds::Node(among, rules) => {
+            if !is_among(here, among) {
+                return Ok(());
+            }
+            find_by_rules(findings, check, rules, here, place)
+        }
         Finds::Properties(rule) => {
             find_in_properties(findings, check, rule, node.properties(), place)
         }
-        Finds::Links(rules) => find_by_links(findings, check, rules, survey, here, place),
+        Finds::Links(among, rules) => {
+            if !is_among(here, among) {
+                return Ok(());
+            }
+            find_by_links(findings, check, rules, survey, here, place)
+        }
         Finds::Gpios => {
             if has(node, b"gpio-hog") {
                 return Ok(());
@@ -183,6 +207,48 @@ fn find_here<'t>(
     }
 }
 
+// A quick look whether a check of these nodes may look at one.
+fn may_be_among(placed: &Placed<'_>, among: Among) -> bool
+    ensures { result ≡ false → (above : Option NodeData)
+        → is_among among (record { node = placed.now.node; above = above }) ≡ false }
+{
+    match among {
+        Among::With(name) => placed.may_have(name),
+        Among::WithEither(name, other) => placed.may_have(name) || placed.may_have(other),
+        Among::All | Among::Part(Graph::Endpoint) => true,
+        Among::Part(Graph::Port) => placed.is_port(),
+    }
+}
+
+// A quick look whether a check may find something in a node.
+fn may_find(placed: &Placed<'_>, finds: Finds) -> bool
+    ensures { result ≡ false → (check : ℕ) (nodes : List PlacedData) (place : ℕ)
+        → found_here check finds nodes place (here_of nodes placed.now) ≡ [] }
+{
+    match finds {
+        Finds::Node(among, _) | Finds::Links(among, _) => may_be_among(placed, among),
+        Finds::Nothing | Finds::Units(_) | Finds::Unknown => false,
+        Finds::Properties(_) | Finds::Gpios | Finds::Aliases => true,
+    }
+}
+
+fn find_at<'t>(
+    findings: &mut Vec<Finding<'t>>,
+    check: usize,
+    finds: Finds,
+    survey: &Survey<'t>,
+    placed: &Placed<'t>,
+    place: usize,
+) -> Result<(), AllocError>
+    ensures { OnOk result (findings.new.items
+        ≡ findings.old.items ++ found_here check finds survey.now place (here_of survey.now placed.now)) }
+{
+    if !may_find(placed, finds) {
+        return Ok(());
+    }
+    find_here(findings, check, finds, survey, &survey.here(placed), place)
+}
+
 fn find_in<'t>(
     findings: &mut Vec<Finding<'t>>,
     check: usize,
@@ -194,7 +260,7 @@ fn find_in<'t>(
         ≡ findings.old.items ++ found_from check finds survey.now 0 nodes.now) }
 {
     for (place, placed) in nodes.iter().enumerate() {
-        find_here(findings, check, finds, survey, &survey.here(placed), place)?;
+        find_at(findings, check, finds, survey, placed, place)?;
     }
     Ok(())
 }

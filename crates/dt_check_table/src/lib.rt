@@ -13,14 +13,14 @@ mod table;
 mod units;
 mod unknown;
 
-pub use check::{Check, Finds, Severity};
+pub use check::{Among, Check, Finds, Severity};
 pub use finding::Finding;
 pub use finding_all::find;
 pub use near::is_near;
 pub use reference::{BadReference, Places, Reference, Row, list_of};
 pub use rule::{LinkRule, PropertyRule, Rule};
-pub use run::{Report, run_checks};
-pub use selection::{Change, Entry, Kind, Least, Level, Selection, check_named};
+pub use run::{Report, Status, run_checks};
+pub use selection::{Change, Kind, Least, Level, Selection, check_named};
 pub use table::{CHECK_COUNT, DTC_COUNT, UNKNOWN_PROPERTY, check_at};
 pub use units::{Counted, find_units};
 pub use unknown::find_unknown;

@@ -1,19 +1,21 @@
 //! Which checks are made, and what they tell.
+ghost use Rattle.std.specs.Prelude.{◌≡◌, IfOk, OnOk};
+ghost use Rattle.dt_check_table.specs.Run.{FindsIn, Tells, is_waiting, has_passed};
 
 use crate::check::{Check, Finds};
 use crate::finding::Finding;
 use crate::finding_all::find;
 use crate::reference::Reference;
-use crate::selection::{Least, Selection};
-use crate::table::{CHECK_COUNT, check_at};
+use crate::selection::{Least, Level, Selection};
 use crate::units::find_units;
 use crate::unknown::find_unknown;
 use dt_check::Survey;
 use std::alloc::{AllocError, Global};
+use std::marker::Model;
 
 /// How a check stands.
 #[derive(Clone, Copy, Debug, PartialEq, Eq)]
-enum Status {
+pub enum Status {
     Waiting,
     Passed,
     /// It found something, or what it stands on didn't pass.
@@ -29,6 +31,14 @@ pub struct Report<'t> {
     pub failed: bool,
 }
 
+/// What checks look into.
+#[derive(Clone, Copy)]
+struct Subject<'a, 't> {
+    alloc: Global,
+    survey: &'a Survey<'t>,
+    reference: &'a Reference<'a>,
+}
+
 #[derive(Drop)]
 struct Run<'t> {
     statuses: Vec<Status>,
@@ -36,109 +46,219 @@ struct Run<'t> {
     failed: bool,
 }
 
+impl<'t> Model for Run<'t> {
+    ghost use Rattle.dt_check_table.specs.Run.{RunData};
+
+    ghost Value = { RunData };
+
+    ghost view = { λ run. record { statuses = run.statuses.items; findings = run.findings.items; failed = run.failed } };
+}
+
+fn is_waiting(status: Status) -> bool
+    ensures { result ≡ is_waiting status }
+{
+    match status {
+        Status::Waiting => true,
+        Status::Passed | Status::Failed => false,
+    }
+}
+
+fn has_passed(status: Status) -> bool
+    ensures { result ≡ has_passed status }
+{
+    match status {
+        Status::Passed => true,
+        Status::Waiting | Status::Failed => false,
+    }
+}
+
+// What a check finds.
+fn look<'t>(
+    subject: Subject<'_, 't>,
+    check: usize,
+    finds: Finds,
+) -> Result<Vec<Finding<'t>>, AllocError>
+    ensures { IfOk result (λ more. FindsIn subject.entry.survey.now check finds more.items) }
+{
+    match finds {
+        Finds::Units(counted) => find_units(subject.alloc, check, counted, subject.survey),
+        Finds::Unknown => { find_unknown(subject.alloc, check, subject.survey, subject.reference) }
+        finds => {
+            let mut more = Vec::new(subject.alloc);
+            find(&mut more, check, finds, subject.survey)?;
+            Ok(more)
+        }
+    }
+}
+
 impl<'t> Run<'t> {
-    fn status(&self, check: usize) -> Status {
+    ghost use Rattle.std.specs.Prelude.{slice_set};
+    ghost use Rattle.dt_check_table.specs.Run.{begun, missing, status_at, told, is_shown, MakesWith, MakesAt, MakesAll, MakesBehind, MakesIfAsked, MakesFrom};
+
+    // Before the first of so many checks.
+    fn begin(alloc: Global, count: usize) -> Result<Self, AllocError>
+        ensures { IfOk result (λ run. run ≡ begun count) }
+    {
+        Ok(Self {
+            statuses: vec![in alloc; Status::Waiting; count]?,
+            findings: Vec::new(alloc),
+            failed: false,
+        })
+    }
+
+    fn status(&self, check: usize) -> Status
+        ensures { result ≡ status_at self.now.statuses check }
+    {
         match self.statuses.get(check) {
             Some(status) => *status,
             None => Status::Waiting,
         }
     }
 
-    fn settle(&mut self, check: usize, status: Status) {
+    // Which prerequisites of a check didn't pass.
+    fn missing(
+        &self,
+        alloc: Global,
+        check: usize,
+        needed: &[usize],
+    ) -> Result<Vec<Finding<'t>>, AllocError>
+        ensures { IfOk result (λ gone. gone.items ≡ missing self.now.statuses check needed.now) }
+    {
+        let mut gone = Vec::new(alloc);
+        for prerequisite in needed {
+            if !has_passed(self.status(*prerequisite)) {
+                gone.push(Finding::of_prerequisite(check, *prerequisite))?;
+            }
+        }
+        Ok(gone)
+    }
+
+    // A check told this: where that is nothing, it passed.
+    fn settle(
+        &mut self,
+        level: Level,
+        check: usize,
+        more: Vec<Finding<'t>>,
+    ) -> Result<(), AllocError>
+        ensures { OnOk result (self.new ≡ told level check more.entry.items self.old) }
+    {
+        let mut more = more;
+        if more.is_empty() {
+            self.stand(check, Status::Passed);
+            return Ok(());
+        }
+        if level.warns || level.fails {
+            self.findings.append(&mut more)?;
+        }
+        self.stand(check, Status::Failed);
+        self.failed = self.failed || level.fails;
+        Ok(())
+    }
+
+    fn stand(&mut self, check: usize, status: Status)
+        ensures { self.new ≡ record self.old { statuses = slice_set self.old.statuses check status } }
+    {
         if check < self.statuses.len() {
             self.statuses[check] = status;
         }
     }
 
-    // Tells which prerequisites of a check didn't pass.
-    fn tell_prerequisites(&mut self, check: usize, needed: &[usize]) -> Result<(), AllocError> {
-        for prerequisite in needed {
-            if self.status(*prerequisite) != Status::Passed {
-                self.findings
-                    .push(Finding::of_prerequisite(check, *prerequisite))?;
-            }
-        }
-        Ok(())
-    }
-
-    // Makes a check whose prerequisites were made, unless it was made or an error ended the run.
-    fn step(
+    // Makes a check whose prerequisites were made, unless it was made or an error stands.
+    fn make(
         &mut self,
-        alloc: Global,
-        survey: &Survey<'t>,
-        reference: &Reference<'_>,
-        selection: &Selection,
+        subject: Subject<'_, 't>,
+        level: Level,
         check: usize,
         row: &Check,
-    ) -> Result<(), AllocError> {
-        if self.status(check) != Status::Waiting {
+    ) -> Result<(), AllocError>
+        ensures { OnOk result (MakesWith subject.entry.survey.now level check row.now self.old self.new) }
+    {
+        if !is_waiting(self.status(check)) {
             return Ok(());
         }
-        let told = self.findings.len();
-        self.tell_prerequisites(check, row.prerequisites)?;
-        if self.findings.len() == told {
-            if self.failed {
-                return Ok(());
-            }
-            match row.finds {
-                Finds::Nothing => {}
-                Finds::Units(counted) => {
-                    find_units(alloc, &mut self.findings, check, counted, survey)?;
-                }
-                Finds::Unknown => {
-                    find_unknown(alloc, &mut self.findings, check, survey, reference)?;
-                }
-                finds => find(&mut self.findings, check, finds, survey)?,
-            }
+        let gone = self.missing(subject.alloc, check, row.prerequisites)?;
+        if !gone.is_empty() {
+            return self.settle(level, check, gone);
         }
-        self.judge(selection, check, told);
-        Ok(())
+        if self.failed {
+            return Ok(());
+        }
+        let more = look(subject, check, row.finds)?;
+        self.settle(level, check, more)
     }
 
-    // How a check stands that was made or couldn't be, behind which so many findings were told before.
-    fn judge(&mut self, selection: &Selection, check: usize, told: usize) {
-        if self.findings.len() == told {
-            return self.settle(check, Status::Passed);
-        }
-        self.settle(check, Status::Failed);
-        let level = selection.level(check);
-        if level.fails {
-            self.failed = true;
-        } else if !level.warns {
-            self.findings.truncate(told);
+    fn make_at(
+        &mut self,
+        subject: Subject<'_, 't>,
+        selection: &Selection,
+        check: usize,
+    ) -> Result<(), AllocError>
+        ensures { OnOk result (MakesAt subject.entry.survey.now selection.now check self.old self.new) }
+    {
+        match selection.row(check) {
+            None => Ok(()),
+            Some(row) => self.make(subject, selection.level(check), check, row),
         }
     }
 
     fn make_all(
         &mut self,
-        alloc: Global,
-        survey: &Survey<'t>,
-        reference: &Reference<'_>,
+        subject: Subject<'_, 't>,
         selection: &Selection,
         checks: &[usize],
-    ) -> Result<(), AllocError> {
+    ) -> Result<(), AllocError>
+        ensures { OnOk result (MakesAll subject.entry.survey.now selection.now checks.now self.old self.new) }
+    {
         for check in checks {
-            if let Some(row) = check_at(*check) {
-                self.step(alloc, survey, reference, selection, *check, row)?;
-            }
+            self.make_at(subject, selection, *check)?;
         }
         Ok(())
     }
 
     // A check behind those that it stands on.
-    fn make(
+    fn make_behind(
         &mut self,
-        alloc: Global,
-        survey: &Survey<'t>,
-        reference: &Reference<'_>,
+        subject: Subject<'_, 't>,
         selection: &Selection,
         check: usize,
-    ) -> Result<(), AllocError> {
-        let Some(row) = check_at(check) else {
+        row: &Check,
+    ) -> Result<(), AllocError>
+        ensures { OnOk result (MakesBehind subject.entry.survey.now selection.now check row.now self.old self.new) }
+    {
+        self.make_all(subject, selection, row.made_before)?;
+        self.make(subject, selection.level(check), check, row)
+    }
+
+    fn make_if_asked(
+        &mut self,
+        subject: Subject<'_, 't>,
+        selection: &Selection,
+        least: Least,
+        check: usize,
+        row: &Check,
+    ) -> Result<(), AllocError>
+        ensures { OnOk result (MakesIfAsked subject.entry.survey.now selection.now least check row.now self.old self.new) }
+    {
+        if self.failed || !selection.level(check).is_asked(least) {
             return Ok(());
-        };
-        self.make_all(alloc, survey, reference, selection, row.made_before)?;
-        self.step(alloc, survey, reference, selection, check, row)
+        }
+        self.make_behind(subject, selection, check, row)
+    }
+
+    // Those of the table that are asked for.
+    fn make_asked(
+        &mut self,
+        subject: Subject<'_, 't>,
+        selection: &Selection,
+        least: Least,
+        rows: &[Check],
+    ) -> Result<(), AllocError>
+        ensures { OnOk result (MakesFrom subject.entry.survey.now selection.now least 0 rows.now self.old self.new) }
+    {
+        for (check, row) in rows.iter().enumerate() {
+            self.make_if_asked(subject, selection, least, check, row)?;
+        }
+        Ok(())
     }
 }
 
@@ -150,17 +270,17 @@ pub fn run_checks<'t>(
     reference: &Reference<'_>,
     selection: &Selection,
     least: Least,
-) -> Result<Report<'t>, AllocError> {
-    let mut run = Run {
-        statuses: vec![in alloc; Status::Waiting; CHECK_COUNT]?,
-        findings: Vec::new(alloc),
-        failed: false,
+) -> Result<Report<'t>, AllocError>
+    ensures { IfOk result (λ report. Tells survey.now selection.now least report.findings.items report.failed) }
+{
+    let subject = Subject {
+        alloc,
+        survey,
+        reference,
     };
-    for check in 0..CHECK_COUNT {
-        if selection.level(check).is_asked(least) && !run.failed {
-            run.make(alloc, survey, reference, selection, check)?;
-        }
-    }
+    let rows = selection.rows();
+    let mut run = Run::begin(alloc, rows.len())?;
+    run.make_asked(subject, selection, least, rows)?;
     let Run {
         statuses: _,
         findings,

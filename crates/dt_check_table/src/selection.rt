@@ -3,7 +3,7 @@ ghost use Rattle.std.specs.Prelude.{◌≡◌, IfOk};
 ghost use Rattle.std.specs.List.{list_any};
 ghost use Rattle.dt_check_table.specs.Selected.{usual, usual_levels, is_among, stands_on, goes_along, goes, level_with, is_so, changed_at, changed_from, is_asked};
 
-use crate::check::Severity;
+use crate::check::{Check, Severity};
 use crate::table::{CHECK_COUNT, UNKNOWN_PROPERTY, check_at};
 use std::alloc::{AllocError, Global};
 use std::marker::Model;
@@ -39,13 +39,6 @@ pub struct Change {
     pub kind: Kind,
     pub check: usize,
     pub on: bool,
-}
-
-/// What the table says of a check: what its mistakes come to by default, and those that it stands on.
-#[derive(Clone, Copy, Debug)]
-pub struct Entry {
-    pub severity: Severity,
-    pub made_before: &'static [usize],
 }
 
 impl Level {
@@ -109,12 +102,12 @@ fn usual(severity: Severity) -> Level
     }
 }
 
-fn usual_levels(alloc: Global, entries: &[Entry]) -> Result<Vec<Level>, AllocError>
-    ensures { IfOk result (λ levels. levels.items ≡ usual_levels entries.now) }
+fn usual_levels(alloc: Global, rows: &[Check]) -> Result<Vec<Level>, AllocError>
+    ensures { IfOk result (λ levels. levels.items ≡ usual_levels rows.now) }
 {
-    let mut levels = Vec::with_capacity(alloc, entries.len())?;
-    for entry in entries {
-        levels.push(usual(entry.severity))?;
+    let mut levels = Vec::with_capacity(alloc, rows.len())?;
+    for row in rows {
+        levels.push(usual(row.severity))?;
     }
     Ok(levels)
 }
@@ -126,35 +119,35 @@ fn is_among(places: &[usize], wanted: usize) -> bool
 }
 
 // Whether the check at a place stands on another.
-fn stands_on(entries: &[Entry], one: usize, other: usize) -> bool
-    ensures { result ≡ stands_on entries.now one other }
+fn stands_on(rows: &[Check], one: usize, other: usize) -> bool
+    ensures { result ≡ stands_on rows.now one other }
 {
-    match entries.get(one) {
+    match rows.get(one) {
         None => false,
-        Some(entry) => is_among(entry.made_before, other),
+        Some(row) => is_among(row.made_before, other),
     }
 }
 
-fn goes_along(entries: &[Entry], change: Change, place: usize) -> bool
-    ensures { result ≡ goes_along entries.now change place }
+fn goes_along(rows: &[Check], change: Change, place: usize) -> bool
+    ensures { result ≡ goes_along rows.now change place }
 {
     if change.on {
-        stands_on(entries, change.check, place)
+        stands_on(rows, change.check, place)
     } else {
-        stands_on(entries, place, change.check)
+        stands_on(rows, place, change.check)
     }
 }
 
-fn goes(entries: &[Entry], change: Change, place: usize) -> bool
-    ensures { result ≡ goes entries.now change place }
+fn goes(rows: &[Check], change: Change, place: usize) -> bool
+    ensures { result ≡ goes rows.now change place }
 {
-    place == change.check || goes_along(entries, change, place)
+    place == change.check || goes_along(rows, change, place)
 }
 
-fn changed_at(entries: &[Entry], change: Change, place: usize, level: Level) -> Level
-    ensures { result ≡ changed_at entries.now change place level }
+fn changed_at(rows: &[Check], change: Change, place: usize, level: Level) -> Level
+    ensures { result ≡ changed_at rows.now change place level }
 {
-    if goes(entries, change, place) {
+    if goes(rows, change, place) {
         level.with(change.kind, change.on)
     } else {
         level
@@ -163,30 +156,27 @@ fn changed_at(entries: &[Entry], change: Change, place: usize, level: Level) -> 
 
 fn changed(
     alloc: Global,
-    entries: &[Entry],
+    rows: &[Check],
     change: Change,
     levels: &[Level],
 ) -> Result<Vec<Level>, AllocError>
-    ensures { IfOk result (λ new. new.items ≡ changed_from entries.now change 0 levels.now) }
+    ensures { IfOk result (λ new. new.items ≡ changed_from rows.now change 0 levels.now) }
 {
     let mut new = Vec::with_capacity(alloc, levels.len())?;
     for (place, level) in levels.iter().enumerate() {
-        new.push(changed_at(entries, change, place, *level))?;
+        new.push(changed_at(rows, change, place, *level))?;
     }
     Ok(new)
 }
 
-fn entries_of(alloc: Global) -> Result<Vec<Entry>, AllocError> {
-    let mut entries = Vec::with_capacity(alloc, CHECK_COUNT)?;
+fn all_rows(alloc: Global) -> Result<Vec<Check>, AllocError> {
+    let mut rows = Vec::with_capacity(alloc, CHECK_COUNT)?;
     for place in 0..CHECK_COUNT {
         if let Some(check) = check_at(place) {
-            entries.push(Entry {
-                severity: check.severity,
-                made_before: check.made_before,
-            })?;
+            rows.push(*check)?;
         }
     }
-    Ok(entries)
+    Ok(rows)
 }
 
 fn is_called(place: usize, name: &str) -> bool {
@@ -210,7 +200,7 @@ pub fn check_named(name: &str) -> Option<usize> {
 #[derive(Drop)]
 pub struct Selection {
     alloc: Global,
-    entries: Vec<Entry>,
+    rows: Vec<Check>,
     levels: Vec<Level>,
 }
 
@@ -219,24 +209,39 @@ impl Model for Selection {
 
     ghost Value = { SelectionData };
 
-    ghost view = { λ s. record { entries = s.entries.items; levels = s.levels.items } };
+    ghost view = { λ s. record { rows = s.rows.items; levels = s.levels.items } };
 }
 
 impl Selection {
-    ghost use Rattle.std.specs.Prelude.{not, OnOk, OnErr};
+    ghost use Rattle.std.specs.Prelude.{not, OnOk, OnErr, slice_get};
+    ghost use Rattle.std.specs.Option.{option_copied};
     ghost use Rattle.dt_check_table.specs.Selected.{level_at, is_done, changed};
 
     /// dtc's own.
     pub fn usual(alloc: Global) -> Result<Self, AllocError>
-        ensures { IfOk result (λ selection. selection.levels ≡ usual_levels selection.entries) }
+        ensures { IfOk result (λ selection. selection.levels ≡ usual_levels selection.rows) }
     {
-        let entries = entries_of(alloc)?;
-        let levels = usual_levels(alloc, entries.as_slice())?;
+        let rows = all_rows(alloc)?;
+        let levels = usual_levels(alloc, rows.as_slice())?;
         Ok(Self {
             alloc,
-            entries,
+            rows,
             levels,
         })
+    }
+
+    /// The table.
+    pub fn rows(&self) -> &[Check]
+        ensures { result.now ≡ self.now.rows }
+    {
+        self.rows.as_slice()
+    }
+
+    /// The check at a place of it.
+    pub fn row(&self, place: usize) -> Option<&Check>
+        ensures { option_copied result ≡ slice_get self.now.rows place }
+    {
+        self.rows.get(place)
     }
 
     /// What a check's mistakes come to.
@@ -274,7 +279,7 @@ impl Selection {
         }
         self.levels = changed(
             self.alloc,
-            self.entries.as_slice(),
+            self.rows.as_slice(),
             change,
             self.levels.as_slice(),
         )?;

@@ -1,11 +1,13 @@
 //! The table of checks: dtc's in its order, in parts of eleven, and then those that dtc doesn't have.
 
 mod links;
+mod lists;
 mod nodes;
 mod own;
 
 use crate::check::Check;
-use crate::table::links::{part_4, part_5, part_6, part_7};
+use crate::table::links::part_7;
+use crate::table::lists::{part_4, part_5, part_6};
 use crate::table::nodes::{part_0, part_1, part_2, part_3};
 use crate::table::own::part_8;
 

@@ -1,7 +1,8 @@
 //! Nodes side by side with one unit address (Devicetree Specification v0.4, section 2.2.1.1).
 //!
-//! Each pair is told of its first node. Of many with one address each is paired with the sixteen nearest before it, so that what is told
-//! stays as large as the tree.
+//! Each pair is told of its first node. Of more than 64 nodes with one address each is paired with the sixteen nearest before it, so that
+//! what is told stays as large as the tree.
+ghost use Rattle.std.specs.Prelude.{◌≡◌, All, IfOk};
 
 use crate::finding::Finding;
 use dt_check::{Fault, Message, Survey, has, unit_address};
@@ -9,7 +10,10 @@ use dt_tree::Node;
 use std::alloc::{AllocError, Global};
 use std::cmp::Ordering;
 
-/// How many nodes before one are paired with it at most.
+/// How many nodes with one address there are at most, so that all pairs of them are told.
+const MAX_GROUP: usize = 64;
+
+/// How many nodes before one are paired with it, where there are more.
 const MAX_PAIRS: usize = 16;
 
 /// Which nodes count.
@@ -101,16 +105,19 @@ fn units_of<'t>(
     Ok(units)
 }
 
-// Pairs a unit with those before it of the same address.
-fn add_pairs(
+// Whether two are below one node, with one address.
+fn is_beside(one: &Unit<'_>, other: &Unit<'_>) -> bool {
+    one.above == other.above && one.address == other.address
+}
+
+// Pairs a unit with the nearest of those before it.
+fn add_pairs_of(
     pairs: &mut Vec<Pair>,
     before: &[Unit<'_>],
     unit: &Unit<'_>,
+    most: usize,
 ) -> Result<(), AllocError> {
-    for other in before.iter().rev().take(MAX_PAIRS) {
-        if other.above != unit.above || other.address != unit.address {
-            return Ok(());
-        }
+    for other in before.iter().rev().take(most) {
         pairs.push(Pair {
             above: unit.above,
             later: unit.place,
@@ -120,24 +127,44 @@ fn add_pairs(
     Ok(())
 }
 
-/// Puts the pairs of nodes with one unit address last: by the node above, then by the later, then by the earlier.
+// Pairs the units of one address.
+fn add_pairs(pairs: &mut Vec<Pair>, group: &[Unit<'_>]) -> Result<(), AllocError> {
+    let most = if group.len() > MAX_GROUP {
+        MAX_PAIRS
+    } else {
+        MAX_GROUP
+    };
+    for (index, unit) in group.iter().enumerate() {
+        add_pairs_of(pairs, group.get(..index).unwrap_or(&[]), unit, most)?;
+    }
+    Ok(())
+}
+
+// The pairs of nodes with one unit address, in order.
+fn pairs_in(alloc: Global, survey: &Survey<'_>, counted: Counted) -> Result<Vec<Pair>, AllocError> {
+    let units = units_of(alloc, survey, counted)?;
+    let mut pairs = Vec::new(alloc);
+    for group in units.chunk_by(|one, other| is_beside(one, other)) {
+        add_pairs(&mut pairs, group)?;
+    }
+    pairs.sort_by(|one, other| pairs_in_order(one, other))?;
+    Ok(pairs)
+}
+
+/// The pairs of nodes with one unit address: by the node above, then by the later, then by the earlier.
 pub fn find_units<'t>(
     alloc: Global,
-    findings: &mut Vec<Finding<'t>>,
     check: usize,
     counted: Counted,
     survey: &Survey<'t>,
-) -> Result<(), AllocError> {
-    let units = units_of(alloc, survey, counted)?;
-    let mut pairs = Vec::new(alloc);
-    for (index, unit) in units.iter().enumerate() {
-        let before = units.get(..index).unwrap_or(&[]);
-        add_pairs(&mut pairs, before, unit)?;
-    }
-    pairs.sort_by(|one, other| pairs_in_order(one, other))?;
+) -> Result<Vec<Finding<'t>>, AllocError>
+    ensures { IfOk result (λ found. All (λ f. f.check ≡ check) found.items) }
+{
+    let pairs = pairs_in(alloc, survey, counted)?;
+    let mut findings = Vec::new(alloc);
     for pair in &pairs {
         let fault = Fault::of_node(Message::SameUnit(pair.later));
         findings.push(Finding::of(check, pair.earlier, fault))?;
     }
-    Ok(())
+    Ok(findings)
 }

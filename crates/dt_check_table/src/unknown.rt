@@ -1,4 +1,5 @@
 //! Properties that no node of the same `compatible` has in a reference set, and that are within two letters of one that has.
+ghost use Rattle.std.specs.Prelude.{◌≡◌, All, IfOk};
 
 use crate::finding::Finding;
 use crate::near::is_near;
@@ -36,7 +37,10 @@ fn find_in<'t>(
     properties: &'t [Property],
     reference: &Reference<'_>,
     places: Places,
-) -> Result<(), AllocError> {
+) -> Result<(), AllocError>
+    requires { All (λ f. f.check ≡ check) findings.old.items }
+    ensures { All (λ f. f.check ≡ check) findings.new.items }
+{
     for property in properties {
         let name = property.name.as_bytes();
         if is_known(reference, places, name) {
@@ -50,21 +54,30 @@ fn find_in<'t>(
     Ok(())
 }
 
-/// Puts the unknown properties last: node by node in preorder, in each in the order of its properties.
+/// The unknown properties: node by node in preorder, in each in the order of its properties.
 pub fn find_unknown<'t>(
     alloc: Global,
-    findings: &mut Vec<Finding<'t>>,
     check: usize,
     survey: &Survey<'t>,
     reference: &Reference<'_>,
-) -> Result<(), AllocError> {
+) -> Result<Vec<Finding<'t>>, AllocError>
+    ensures { IfOk result (λ found. All (λ f. f.check ≡ check) found.items) }
+{
+    let mut findings = Vec::new(alloc);
     for place in 0..survey.len() {
         if let Some(node) = survey.node(place) {
             if let Some(list) = list_of(alloc, node)? {
                 let places = reference.places_of(list.as_slice());
-                find_in(findings, check, place, node.properties(), reference, places)?;
+                find_in(
+                    &mut findings,
+                    check,
+                    place,
+                    node.properties(),
+                    reference,
+                    places,
+                )?;
             }
         }
     }
-    Ok(())
+    Ok(findings)
 }

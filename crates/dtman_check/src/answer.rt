@@ -1,4 +1,10 @@
 //! From a blob to the lines of its findings.
+ghost use Rattle.std.specs.Prelude.{◌≡◌, IfOk};
+ghost use Rattle.dt_tree.specs.TreeData.{TreeData};
+ghost use Rattle.dt_blob.specs.Holds.{Holds};
+ghost use Rattle.dt_check_table.specs.Selected.{level_at};
+ghost use Rattle.dtman_check.specs.Answers.{least_of, is_shown, Judges};
+
 use crate::line::{Shape, put_line};
 use crate::places::{Located, Source, locate_findings};
 use crate::writer::Writer;
@@ -74,13 +80,17 @@ pub struct Answer {
     pub failed: bool,
 }
 
-fn is_told(selection: &Selection, check: usize, quiet: usize) -> bool {
+fn is_told(selection: &Selection, check: usize, quiet: usize) -> bool
+    ensures { result ≡ is_shown quiet (level_at selection.now.levels check) }
+{
     let level = selection.level(check);
     (level.warns && quiet < 1) || (level.fails && quiet < 2)
 }
 
 /// What a mistake comes to at least that is looked for: who is asked to say less looks for errors alone.
-pub fn least_of(quiet: usize) -> Least {
+pub fn least_of(quiet: usize) -> Least
+    ensures { result ≡ least_of quiet }
+{
     if quiet < 1 {
         return Least::Warning;
     }
@@ -136,7 +146,9 @@ pub fn check_tree(
     tree: &Tree,
     selection: &Selection,
     asked: Asked<'_>,
-) -> Result<Answer, AllocError> {
+) -> Result<Answer, AllocError>
+    ensures { IfOk result (λ answer. Judges tree.now.root selection.now asked.entry.quiet answer.failed) }
+{
     let survey = Survey::of(alloc, hasher, tree)?;
     let report = run_checks(
         alloc,
@@ -175,7 +187,9 @@ fn take_out_added(alloc: Global, tree: &mut Tree) -> Result<(), TreeError> {
     take_out(alloc, tree, b"__local_fixups__")
 }
 
-fn tree_of(alloc: Global, blob: &[u8], origin: Origin) -> Result<Tree, BlobError> {
+fn tree_of(alloc: Global, blob: &[u8], origin: Origin) -> Result<Tree, BlobError>
+    ensures { origin ≡ Origin.Blob → IfOk result (λ tree. Holds blob.now tree) }
+{
     let mut tree = read(alloc, blob)?;
     if origin == Origin::Source && take_out_added(alloc, &mut tree).is_err() {
         return Err(BlobError::NoMemory);
@@ -191,7 +205,10 @@ pub fn check_blob(
     origin: Origin,
     selection: &Selection,
     asked: Asked<'_>,
-) -> Result<Answer, BlobError> {
+) -> Result<Answer, BlobError>
+    ensures { origin ≡ Origin.Blob → IfOk result (λ answer. (tree : TreeData) × Holds blob.now tree
+        × Judges tree.root selection.now asked.entry.quiet answer.failed) }
+{
     let tree = tree_of(alloc, blob, origin)?;
     Ok(check_tree(alloc, hasher, &tree, selection, asked)?)
 }

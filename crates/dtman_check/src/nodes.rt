@@ -100,7 +100,7 @@ pub fn plain_words(message: Message) -> &'static str {
         Message::NotACell => "is not one cell",
         Message::SecondAt => "the name has a second '@'",
         Message::NameTwice => "the node above has a property of the same name",
-        Message::WrongName => "is not the base of the node's name",
+        Message::WrongName => "its property name is not the base of its name",
         Message::RootHasReg => "the root has a property reg",
         Message::IsEmpty => "is empty",
         Message::RootHas => "the root can't have it",

@@ -1,6 +1,6 @@
 //! Checks of mistakes that none of dtc's sees: off where nothing is said.
 
-use crate::check::{Check, Finds, Severity};
+use crate::check::{Among, Check, Finds, Severity};
 use crate::rule::Rule;
 
 static PART_8: [Check; 2] = [
@@ -9,7 +9,7 @@ static PART_8: [Check; 2] = [
         severity: Severity::Off,
         prerequisites: &[],
         made_before: &[],
-        finds: Finds::Node(&[Rule::LostRanges]),
+        finds: Finds::Node(Among::All, &[Rule::LostRanges]),
     },
     Check {
         name: "unknown_property",

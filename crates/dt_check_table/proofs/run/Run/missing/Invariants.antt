@@ -1,0 +1,7 @@
+use Rattle.std.proofs.Common.{◌≡◌, ◌++◌, drop}
+use Rattle.dt_check_table.specs.Run.{missing}
+use Rattle.dt_check_table.proofs.run.Run.missing.Given as goal
+
+-- those so far and those that are left are all
+abbrev pub invariant-loop-prerequisite : goal.invariant-loop-prerequisite
+invariant-loop-prerequisite l = l.gone.items ++ missing l.self.statuses l.check (drop l.prerequisite-index l.needed) ≡ missing l.self.statuses l.check l.needed
