@@ -29,7 +29,7 @@ extern "C" {
 #endif
 
 /* Which calls there are: it grows by one with each call more, and by a hundred where one changes. */
-#define DTMAN_VIEW_VERSION 213
+#define DTMAN_VIEW_VERSION 215
 
 /* No bytes. */
 #define DTMAN_VIEW_NONE ((const uint8_t *)"")
@@ -47,7 +47,8 @@ enum {
 	DTMAN_EDIT_BAD_NAME = 13,  /* of changes alone: what is added has no lawful name */
 	DTMAN_EDIT_ROOT = 14,      /* of changes alone: the root isn't deleted */
 	DTMAN_EDIT_EXISTS = 15,    /* of changes alone: the node has a child of the name */
-	DTMAN_EDIT_TOO_DEEP = 16   /* of changes alone: 64 nodes are round the node, so it has no child */
+	DTMAN_EDIT_TOO_DEEP = 16,  /* of changes alone: 64 nodes are round the node, so it has no child */
+	DTMAN_EDIT_END_PAIR = 17   /* of changes alone: an address and a size of zero end the list of reserved memory */
 };
 
 struct dtman_view_told {
@@ -230,6 +231,19 @@ struct dtman_view_told dtman_edit_add_node(void *buffer, size_t length, const vo
  * Views over the blob are to be opened anew. NOTHING where there is no such node, BAD_PATH, ROOT, UNORDERED, REFUSED.
  */
 struct dtman_view_told dtman_edit_delete_node(void *blob, size_t length, const void *path, size_t path_length);
+
+/*
+ * Adds an address and a size to the reserved memory, behind those that are there. The blob stands at the front of a buffer of `length` bytes,
+ * which may have room behind it; it wants 16 bytes. What stands behind the reservation is moved once. Views over the buffer are to be opened
+ * anew. END_PAIR, UNORDERED, SHORT, REFUSED.
+ */
+struct dtman_view_told dtman_edit_reserve(void *buffer, size_t length, uint64_t address, uint64_t size);
+
+/*
+ * Takes the reservation at a place, from 0 on, out of the reserved memory, in place: what stands behind it is moved once. Views over the
+ * blob are to be opened anew. NOTHING where there is no such reservation, UNORDERED, REFUSED.
+ */
+struct dtman_view_told dtman_edit_unreserve(void *blob, size_t length, size_t index);
 
 #ifdef __cplusplus
 }

@@ -58,7 +58,7 @@ static void walk(void)
 static void tell(const char *what, struct dtman_view_told told)
 {
 	static const char *const ends[] = { "done", NULL, "refused", NULL, "nothing", NULL, NULL, NULL, "bad offset", "bad path", "other length",
-		"unordered", "short", "bad name", "root", "exists", "too deep" };
+		"unordered", "short", "bad name", "root", "exists", "too deep", "end pair" };
 
 	printf("%s: %s", what, ends[told.status]);
 	if (told.status == DTMAN_EDIT_SHORT)
@@ -70,6 +70,7 @@ static void tell(const char *what, struct dtman_view_told told)
 
 static void add_nodes(void)
 {
+	tell("reserve, too little room", dtman_edit_reserve(blob, LONG, 0x1000, 0x100));
 	tell("add, too little room", dtman_edit_add_node(blob, LONG, TEXT("/"), TEXT("memory@80000000")));
 	tell("add", dtman_edit_add_node(blob, ROOM, TEXT("/"), TEXT("memory@80000000")));
 	tell("add again", dtman_edit_add_node(blob, ROOM, TEXT("/"), TEXT("memory@80000000")));
@@ -91,6 +92,28 @@ static void take_out(void)
 	tell("delete no path", dtman_edit_delete_node(blob, ROOM, TEXT("chosen")));
 }
 
+/* The pairs of the reserved memory. */
+static void tell_reservations(void)
+{
+	struct dtman_view view = DTMAN_NO_VIEW;
+	struct dtman_view_reservation pair = { 0, 0 };
+
+	dtman_view_open(blob, ROOM, &view);
+	for (size_t i = 0; dtman_view_reservation(&view, i, &pair).status == DTMAN_VIEW_DONE; i++)
+		printf("  %llx, %llx\n", (unsigned long long)pair.address, (unsigned long long)pair.size);
+}
+
+static void reserve(void)
+{
+	tell("reserve nothing", dtman_edit_reserve(blob, ROOM, 0, 0));
+	tell("reserve", dtman_edit_reserve(blob, ROOM, 0x1000, 0x100));
+	tell("reserve more", dtman_edit_reserve(blob, ROOM, 0, 0x200));
+	tell_reservations();
+	tell("unreserve", dtman_edit_unreserve(blob, ROOM, 0));
+	tell_reservations();
+	tell("unreserve, behind the last", dtman_edit_unreserve(blob, ROOM, 1));
+}
+
 /* Of version 16, whose header doesn't tell where the structure block ends, nothing is moved; and no blob is refused. */
 static void refuse(void)
 {
@@ -104,6 +127,7 @@ int main(void)
 {
 	add_nodes();
 	take_out();
+	reserve();
 	refuse();
 	return 0;
 }

@@ -133,11 +133,11 @@ fault_kept p x y h l =
 
 -- ---- the reserved memory
 
-record PairFront (p y rest : List ℕ) (a b : ℕ) : Type 0 where
-  is : p ≡ double_word a ++ (double_word b ++ drop 16 p)
-  behind : rest ≡ drop 16 p ++ y
+pub record PairFront (p y rest : List ℕ) (a b : ℕ) : Type 0 where
+  pub is : p ≡ double_word a ++ (double_word b ++ drop 16 p)
+  pub behind : rest ≡ drop 16 p ++ y
 
-pair_front : (p y rest : List ℕ) (a b : ℕ) → 16 ≤ length p → p ++ y ≡ double_word a ++ (double_word b ++ rest) → PairFront p y rest a b
+pub pair_front : (p y rest : List ℕ) (a b : ℕ) → 16 ≤ length p → p ++ y ≡ double_word a ++ (double_word b ++ rest) → PairFront p y rest a b
 pair_front p y rest a b h e =
     let two : List ℕ = double_word a ++ double_word b in
     let len : length two ≡ 16 = omega (arith, length-append (double_word a) (double_word b), length-double_word a, length-double_word b) in

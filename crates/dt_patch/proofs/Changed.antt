@@ -42,34 +42,34 @@ module _ (bytes : List ℕ) (view : View) (plan : Plan) (ip : IsPlan bytes view 
   pub o : Ordered bytes ip.reserved
   o = ordered bytes ip.reserved ip.fault ip.order
 
-  abbrev block : List ℕ
+  abbrev pub block : List ℕ
   block = view.structure.now
 
-  block_is : block ≡ structure_of o.size bytes
+  pub block_is : block ≡ structure_of o.size bytes
   block_is = ip.over.structure ∙ ap (λ (k : Option ℕ). structure_of (unwrap_or k (word_at 4 bytes - word_at 8 bytes)) bytes) o.told
 
-  abbrev front : List ℕ
+  abbrev pub front : List ℕ
   front = take (word_at 8 bytes) bytes
 
-  abbrev behind : List ℕ
+  abbrev pub behind : List ℕ
   behind = drop o.size (drop (word_at 8 bytes) bytes)
 
-  abbrev room : ℕ
+  abbrev pub room : ℕ
   room = word_at 12 bytes - (word_at 8 bytes + o.size)
 
-  abbrev idle : List ℕ
+  abbrev pub idle : List ℕ
   idle = take room behind
 
-  abbrev strings : List ℕ
+  abbrev pub strings : List ℕ
   strings = strings_of bytes
 
-  abbrev rest : List ℕ
+  abbrev pub rest : List ℕ
   rest = drop (word_at 32 bytes) (drop (word_at 12 bytes) bytes)
 
   structure_fits : word_at 8 bytes + o.size ≤ length bytes
   structure_fits = let a = o.third in let b = o.strings in let c = o.whole in omega (arith, a, b, c)
 
-  front_wide : length front ≡ word_at 8 bytes
+  pub front_wide : length front ≡ word_at 8 bytes
   front_wide = let a = structure_fits in omega (arith, a, length-take (word_at 8 bytes) bytes)
 
   pub block_wide : length block ≡ o.size
@@ -78,7 +78,7 @@ module _ (bytes : List ℕ) (view : View) (plan : Plan) (ip : IsPlan bytes view 
   behind_wide : length behind ≡ length bytes - (word_at 8 bytes + o.size)
   behind_wide = omega (arith, length-drop o.size (drop (word_at 8 bytes) bytes), length-drop (word_at 8 bytes) bytes)
 
-  idle_wide : length idle ≡ room
+  pub idle_wide : length idle ≡ room
   idle_wide = let a = o.third in let b = o.strings in let c = o.whole in let d = behind_wide in omega (arith, a, b, c, d, length-take room behind)
 
   pub strings_long : length strings ≡ word_at 32 bytes
@@ -92,12 +92,12 @@ module _ (bytes : List ℕ) (view : View) (plan : Plan) (ip : IsPlan bytes view 
       ap (drop room) (drop-drop o.size (word_at 8 bytes) bytes) ∙ drop-drop room (word_at 8 bytes + o.size) bytes ∙ ap (λ (k : ℕ). drop k bytes) sum in
       cut room behind ∙ ap (λ (x : List ℕ). idle ++ x) (there ∙ cut (word_at 32 bytes) (drop (word_at 12 bytes) bytes))
 
-  whole : bytes ≡ front ++ (block ++ (idle ++ (strings ++ rest)))
+  pub whole : bytes ≡ front ++ (block ++ (idle ++ (strings ++ rest)))
   whole =
       cut (word_at 8 bytes) bytes
       ∙ ap (λ (x : List ℕ). front ++ x) (cut o.size (drop (word_at 8 bytes) bytes) ∙ ap (λ (x : List ℕ). x ++ behind) (sym block_is) ∙ ap (λ (x : List ℕ). block ++ x) behind_is)
 
-  structure_size_is : plan.layout.structure_size ≡ o.size
+  pub structure_size_is : plan.layout.structure_size ≡ o.size
   structure_size_is = ip.layout.structure_size ∙ size_word bytes o.size o.told
 
   pub are_apart : AreApart plan (length bytes)

@@ -107,7 +107,121 @@ module _ (b q p s g t r : List ℕ) (at n m z : ℕ) (wide : 40 ≤ length p) (i
 all_true : (a b c d e : Bool) → a ≡ true → b ≡ true → c ≡ true → d ≡ true → e ≡ true → (a && b && c && d && e) ≡ true
 all_true a b c d e f g h i j = rw (f, g, h, i, j) refl
 
--- a blob's blocks before and after
+-- a blob's blocks before and after: what stands before the structure block may be other bytes, but for the header
+pub record Shifted (bytes q final p s g t r : List ℕ) (l : Layout) : Type 0 where
+  pub new : q ≡ p ++ (s ++ (g ++ (t ++ r)))
+  pub relaid : IsRelaid q final l
+  pub header : (place : ℕ) → place + 4 ≤ 40 → word_at place q ≡ word_at place bytes
+  pub long : length q ≡ length bytes
+  pub front : 40 ≤ length p
+  pub aligned : (length p % 4 == 0) ≡ true
+  pub inside : word_at 16 bytes ≤ length p
+  pub structure_at : l.structure_at ≡ length p
+  pub structure_size : l.structure_size ≡ length s
+  pub strings_at : l.strings_at ≡ length p + length s + length g
+  pub strings_size : l.strings_size ≡ length t
+  pub size : l.strings_at + l.strings_size ≤ l.size
+  pub whole : l.size ≤ length bytes
+
+module _ (bytes q final p s g t r : List ℕ) (l : Layout) (mv : Shifted bytes q final p s g t r l) (reserved : ℕ) (o : Ordered bytes reserved) (tree changed : TreeData) (h : Holds bytes tree)
+    (boot_cpu : changed.boot_cpu ≡ tree.boot_cpu) (is : IsTree changed) (root : SpellsRoot t changed.root s) (pairs : (x : List ℕ) → Reserves changed.reserves (drop (word_at 16 bytes) p ++ x)) where
+  -- a word of the header that isn't changed
+  word_same : (place : ℕ) → place + 4 ≤ 40 → word_at place final ≡ word_at place q → word_at place final ≡ word_at place bytes
+  word_same place k e = e ∙ mv.header place k
+
+  lay : IsLayout final l
+  lay = mv.relaid.layout
+
+  told : structure_size_in final ≡ Some l.structure_size
+  told = told_kept bytes final o.size l.structure_size (word_same 20 (omega arith) mv.relaid.version) o.told (sym lay.structure_size)
+
+  length_same : length final ≡ length bytes
+  length_same = mv.relaid.long ∙ mv.long
+
+  at_now : word_at 8 final ≡ length p
+  at_now = sym lay.structure_at ∙ mv.structure_at
+
+  ends : l.structure_at + l.structure_size ≤ l.size
+  ends = let a = mv.structure_at in let b = mv.structure_size in let c = mv.strings_at in let d = mv.size in omega (arith, a, b, c, d)
+
+  room : 40 ≤ l.size
+  room = let a = ends in let b = mv.structure_at in let w = mv.front in omega (arith, a, b, w)
+
+  laid_out : is_laid_out (header_of final) ≡ true
+  laid_out =
+      let al = aligned bytes h.header in
+      let structure : word_at 8 final + unwrap_or (structure_size_in final) 0 ≤ word_at 4 final =
+      (let a = ends in let b = lay.structure_at in let c = lay.size in let d : unwrap_or (structure_size_in final) 0 ≡ l.structure_size = ap (λ (k : Option ℕ). unwrap_or k 0) told in omega (arith, a, b, c, d)) in
+      let strings : word_at 12 final + word_at 32 final ≤ word_at 4 final = (let a = mv.size in let b = lay.strings_at in let c = lay.size in let d = lay.strings_size in omega (arith, a, b, c, d)) in
+      all_true (nat_le 40 (word_at 4 final)) (nat_le (word_at 8 final + unwrap_or (structure_size_in final) 0) (word_at 4 final)) (nat_le (word_at 12 final + word_at 32 final) (word_at 4 final)) (word_at 8 final % 4 == 0) (word_at 16 final % 8 == 0)
+      (test_at_most 40 (word_at 4 final) (let a = room in let c = lay.size in omega (arith, a, c)))
+      (test_at_most (word_at 8 final + unwrap_or (structure_size_in final) 0) (word_at 4 final) structure)
+      (test_at_most (word_at 12 final + word_at 32 final) (word_at 4 final) strings)
+      (ap (λ (n : ℕ). n % 4 == 0) at_now ∙ mv.aligned)
+      (ap (λ (n : ℕ). n % 8 == 0) (word_same 16 (omega arith) mv.relaid.reserves_at) ∙ al.reserves)
+
+  header_sound : header_fault final ≡ None
+  header_sound =
+      let sd = sound_of bytes h.header in
+      faultless final (ap (λ (n : ℕ). nat_lt 268435456 n) length_same ∙ sd.short) (ap (λ (n : ℕ). nat_lt n 40) length_same ∙ sd.whole)
+      (ap (λ (n : ℕ). not (n == 0xd00dfeed)) (word_same 0 (omega arith) mv.relaid.magic) ∙ sd.magic)
+      (ap (λ (n : ℕ). nat_lt n 16 || nat_lt 17 (word_at 24 final)) (word_same 20 (omega arith) mv.relaid.version) ∙ ap (λ (n : ℕ). nat_lt (word_at 20 bytes) 16 || nat_lt 17 n) (word_same 24 (omega arith) mv.relaid.compatible) ∙ sd.version)
+      (test_not_below (length final) (word_at 4 final) (let a = mv.whole in let b = length_same in let c = lay.size in omega (arith, a, b, c))) laid_out
+
+  structure_now : structure_of l.structure_size final ≡ s
+  structure_now =
+      ap (λ (k : ℕ). take l.structure_size (drop k final)) (sym lay.structure_at)
+      ∙ structure_there final q p s g t r l.structure_at l.structure_size l.strings_at l.strings_size mv.front mv.new mv.relaid.behind mv.structure_at mv.structure_size mv.strings_at mv.strings_size
+
+  strings_now : strings_of final ≡ t
+  strings_now =
+      ap (λ (k : ℕ). take (word_at 32 final) (drop k final)) (sym lay.strings_at) ∙ ap (λ (k : ℕ). take k (drop l.strings_at final)) (sym lay.strings_size)
+      ∙ strings_there final q p s g t r l.structure_at l.structure_size l.strings_at l.strings_size mv.front mv.new mv.relaid.behind mv.structure_at mv.structure_size mv.strings_at mv.strings_size
+
+  reserves_now : Reserves changed.reserves (reserves_of final)
+  reserves_now =
+      let k : ℕ = word_at 16 bytes in
+      let new_room : length p ≤ l.size = (let a = ends in let b = mv.structure_at in omega (arith, a, b)) in
+      let after = reserves_there final q p s g t r l.structure_at l.structure_size l.strings_at l.strings_size mv.front mv.new mv.relaid.behind mv.structure_at mv.structure_size mv.strings_at mv.strings_size k l.size o.first mv.inside new_room in
+      let now : reserves_of final ≡ drop k p ++ after.0 =
+      ap (λ (n : ℕ). drop n (take (word_at 4 final) final)) (word_same 16 (omega arith) mv.relaid.reserves_at) ∙ ap (λ (n : ℕ). drop k (take n final)) (sym lay.size) ∙ after.1 in
+      subst (Reserves changed.reserves) (sym now) (pairs (after.0))
+
+  pub held_shifted : Holds final changed
+  held_shifted = record {
+    header = header_sound;
+    reserves = reserves_now;
+    structure = (
+      l.structure_size,
+      ap (λ (k : Option ℕ). option_map_or (λ (n : ℕ). l.structure_size == n) k (nat_le (word_at 8 final + l.structure_size) (word_at 4 final))) told ∙ test_equal l.structure_size l.structure_size refl,
+      subst (λ (z : List ℕ). SpellsRoot z changed.root (structure_of l.structure_size final)) (sym strings_now) (subst (SpellsRoot t changed.root) (sym structure_now) root),
+    );
+    boot_cpu = boot_cpu ∙ h.boot_cpu ∙ sym (word_same 28 (omega arith) mv.relaid.boot_cpu);
+    limits = is;
+  }
+
+-- the pairs before the structure block, and what is known of them
+pub record Front (bytes p : List ℕ) (rs : List (ℕ × ℕ)) : Type 0 where
+  pub behind : List ℕ
+  pub pairs : Reserves rs (drop (word_at 16 bytes) p ++ behind)
+  pub enough : 16 * (length rs + 1) ≤ length (drop (word_at 16 bytes) p)
+
+pub front_of : (bytes p s g t r : List ℕ) (reserved : ℕ) → Ordered bytes reserved → (tree : TreeData) → Holds bytes tree → reserved ≡ 16 * (length tree.reserves + 1) → bytes ≡ p ++ (s ++ (g ++ (t ++ r))) → length p ≡ word_at 8 bytes → Front bytes p tree.reserves
+front_of bytes p s g t r reserved o tree h sized old pw =
+    let k : ℕ = word_at 16 bytes in
+    let first = o.first in
+    let second = o.second in
+    let wide : 40 ≤ length p = omega (arith, first, second, pw) in
+    let inside : k ≤ length p = omega (arith, second, pw) in
+    let old_room : length p ≤ word_at 4 bytes = (let a = o.third in let b = o.strings in omega (arith, a, b, pw)) in
+    let before = reserves_there bytes bytes p s g t r (length p) (length s) (length p + length s + length g) (length t) wide old refl refl refl refl refl k (word_at 4 bytes) first inside old_room in
+    record {
+      behind = before.0;
+      pairs = subst (Reserves tree.reserves) (before.1) h.reserves;
+      enough = omega (arith, second, pw, sized, length-drop k p);
+    }
+
+-- a blob's blocks before and after, where those before the structure block stay
 pub record Moved (bytes q final p s g t r s' t' r' : List ℕ) (l : Layout) : Type 0 where
   pub old : bytes ≡ p ++ (s ++ (g ++ (t ++ r)))
   pub new : q ≡ p ++ (s' ++ (g ++ (t' ++ r')))
@@ -121,90 +235,27 @@ pub record Moved (bytes q final p s g t r s' t' r' : List ℕ) (l : Layout) : Ty
   pub size : l.strings_at + l.strings_size ≤ l.size
   pub whole : l.size ≤ length bytes
 
-module _ (bytes q final p s g t r s' t' r' : List ℕ) (l : Layout) (mv : Moved bytes q final p s g t r s' t' r' l) (reserved : ℕ) (o : Ordered bytes reserved) (tree changed : TreeData) (h : Holds bytes tree) (sized : reserved ≡ 16 * (length tree.reserves + 1))
-    (reserves : changed.reserves ≡ tree.reserves) (boot_cpu : changed.boot_cpu ≡ tree.boot_cpu) (is : IsTree changed) (root : SpellsRoot t' changed.root s') where
-  wide : 40 ≤ length p
-  wide = let a = o.first in let b = o.second in let c = mv.p_wide in omega (arith, a, b, c)
-
-  -- a word of the header that isn't changed
-  word_same : (place : ℕ) → place + 4 ≤ 40 → word_at place final ≡ word_at place q → word_at place final ≡ word_at place bytes
-  word_same place k e =
-      e ∙ ap (word_at place) mv.new ∙ word_kept place p (s' ++ (g ++ (t' ++ r'))) (s ++ (g ++ (t ++ r))) (let w = wide in omega (arith, k, w)) ∙ ap (word_at place) (sym mv.old)
-
-  lay : IsLayout final l
-  lay = mv.relaid.layout
-
-  told : structure_size_in final ≡ Some l.structure_size
-  told = told_kept bytes final o.size l.structure_size (word_same 20 (omega arith) mv.relaid.version) o.told (sym lay.structure_size)
-
-  length_same : length final ≡ length bytes
-  length_same = mv.relaid.long ∙ mv.long
-
-  at_same : word_at 8 final ≡ word_at 8 bytes
-  at_same = sym lay.structure_at ∙ mv.structure_at ∙ mv.p_wide
-
-  ends : l.structure_at + l.structure_size ≤ l.size
-  ends = let a = mv.structure_at in let b = mv.structure_size in let c = mv.strings_at in let d = mv.size in omega (arith, a, b, c, d)
-
-  room : 40 ≤ l.size
-  room = let a = ends in let b = mv.structure_at in let w = wide in omega (arith, a, b, w)
-
-  laid_out : is_laid_out (header_of final) ≡ true
-  laid_out =
-      let al = aligned bytes h.header in
-      let structure : word_at 8 final + unwrap_or (structure_size_in final) 0 ≤ word_at 4 final =
-      (let a = ends in let b = lay.structure_at in let c = lay.size in let d : unwrap_or (structure_size_in final) 0 ≡ l.structure_size = ap (λ (k : Option ℕ). unwrap_or k 0) told in omega (arith, a, b, c, d)) in
-      let strings : word_at 12 final + word_at 32 final ≤ word_at 4 final = (let a = mv.size in let b = lay.strings_at in let c = lay.size in let d = lay.strings_size in omega (arith, a, b, c, d)) in
-      all_true (nat_le 40 (word_at 4 final)) (nat_le (word_at 8 final + unwrap_or (structure_size_in final) 0) (word_at 4 final)) (nat_le (word_at 12 final + word_at 32 final) (word_at 4 final)) (word_at 8 final % 4 == 0) (word_at 16 final % 8 == 0)
-      (test_at_most 40 (word_at 4 final) (let a = room in let c = lay.size in omega (arith, a, c)))
-      (test_at_most (word_at 8 final + unwrap_or (structure_size_in final) 0) (word_at 4 final) structure)
-      (test_at_most (word_at 12 final + word_at 32 final) (word_at 4 final) strings)
-      (ap (λ (n : ℕ). n % 4 == 0) at_same ∙ al.structure)
-      (ap (λ (n : ℕ). n % 8 == 0) (word_same 16 (omega arith) mv.relaid.reserves_at) ∙ al.reserves)
-
-  header_sound : header_fault final ≡ None
-  header_sound =
-      let sd = sound_of bytes h.header in
-      faultless final (ap (λ (n : ℕ). nat_lt 268435456 n) length_same ∙ sd.short) (ap (λ (n : ℕ). nat_lt n 40) length_same ∙ sd.whole)
-      (ap (λ (n : ℕ). not (n == 0xd00dfeed)) (word_same 0 (omega arith) mv.relaid.magic) ∙ sd.magic)
-      (ap (λ (n : ℕ). nat_lt n 16 || nat_lt 17 (word_at 24 final)) (word_same 20 (omega arith) mv.relaid.version) ∙ ap (λ (n : ℕ). nat_lt (word_at 20 bytes) 16 || nat_lt 17 n) (word_same 24 (omega arith) mv.relaid.compatible) ∙ sd.version)
-      (test_not_below (length final) (word_at 4 final) (let a = mv.whole in let b = length_same in let c = lay.size in omega (arith, a, b, c))) laid_out
-
-  structure_now : structure_of l.structure_size final ≡ s'
-  structure_now =
-      ap (λ (k : ℕ). take l.structure_size (drop k final)) (sym lay.structure_at)
-      ∙ structure_there final q p s' g t' r' l.structure_at l.structure_size l.strings_at l.strings_size wide mv.new mv.relaid.behind mv.structure_at mv.structure_size mv.strings_at mv.strings_size
-
-  strings_now : strings_of final ≡ t'
-  strings_now =
-      ap (λ (k : ℕ). take (word_at 32 final) (drop k final)) (sym lay.strings_at) ∙ ap (λ (k : ℕ). take k (drop l.strings_at final)) (sym lay.strings_size)
-      ∙ strings_there final q p s' g t' r' l.structure_at l.structure_size l.strings_at l.strings_size wide mv.new mv.relaid.behind mv.structure_at mv.structure_size mv.strings_at mv.strings_size
-
-  reserves_now : Reserves tree.reserves (reserves_of final)
-  reserves_now =
-      let k : ℕ = word_at 16 bytes in
-      let first = o.first in
-      let second = o.second in
-      let pw = mv.p_wide in
-      let inside : k ≤ length p = omega (arith, second, pw) in
-      let old_room : length p ≤ word_at 4 bytes = (let a = o.third in let b = o.strings in omega (arith, a, b, pw)) in
-      let new_room : length p ≤ l.size = (let a = ends in let b = mv.structure_at in omega (arith, a, b)) in
-      let before = reserves_there bytes bytes p s g t r (length p) (length s) (length p + length s + length g) (length t) wide mv.old refl refl refl refl refl k (word_at 4 bytes) first inside old_room in
-      let after = reserves_there final q p s' g t' r' l.structure_at l.structure_size l.strings_at l.strings_size wide mv.new mv.relaid.behind mv.structure_at mv.structure_size mv.strings_at mv.strings_size k l.size first inside new_room in
-      let now : reserves_of final ≡ drop k p ++ after.0 =
-      ap (λ (n : ℕ). drop n (take (word_at 4 final) final)) (word_same 16 (omega arith) mv.relaid.reserves_at) ∙ ap (λ (n : ℕ). drop k (take n final)) (sym lay.size) ∙ after.1 in
-      let enough : 16 * (length tree.reserves + 1) ≤ length (drop k p) = omega (arith, second, pw, sized, length-drop k p) in
-      subst (Reserves tree.reserves) (sym now) (reserves_front tree.reserves (drop k p) (before.0) (after.0) enough (subst (Reserves tree.reserves) (before.1) h.reserves))
-
-  pub held_moved : Holds final changed
-  held_moved = record {
-    header = header_sound;
-    reserves = subst (λ (rs : List (ℕ × ℕ)). Reserves rs (reserves_of final)) (sym reserves) reserves_now;
-    structure = (
-      l.structure_size,
-      ap (λ (k : Option ℕ). option_map_or (λ (n : ℕ). l.structure_size == n) k (nat_le (word_at 8 final + l.structure_size) (word_at 4 final))) told ∙ test_equal l.structure_size l.structure_size refl,
-      subst (λ (z : List ℕ). SpellsRoot z changed.root (structure_of l.structure_size final)) (sym strings_now) (subst (SpellsRoot t' changed.root) (sym structure_now) root),
-    );
-    boot_cpu = boot_cpu ∙ h.boot_cpu ∙ sym (word_same 28 (omega arith) mv.relaid.boot_cpu);
-    limits = is;
-  }
+pub held_moved : (bytes q final p s g t r s' t' r' : List ℕ) (l : Layout) → Moved bytes q final p s g t r s' t' r' l → (reserved : ℕ) → Ordered bytes reserved → (tree changed : TreeData) → Holds bytes tree → reserved ≡ 16 * (length tree.reserves + 1)
+    → changed.reserves ≡ tree.reserves → changed.boot_cpu ≡ tree.boot_cpu → IsTree changed → SpellsRoot t' changed.root s' → Holds final changed
+held_moved bytes q final p s g t r s' t' r' l mv reserved o tree changed h sized reserves boot_cpu is root =
+    let first = o.first in
+    let second = o.second in
+    let pw = mv.p_wide in
+    let wide : 40 ≤ length p = omega (arith, first, second, pw) in
+    let f = front_of bytes p s g t r reserved o tree h sized mv.old pw in
+    held_shifted bytes q final p s' g t' r' l (record {
+      new = mv.new;
+      relaid = mv.relaid;
+      header = λ place k. ap (word_at place) mv.new ∙ word_kept place p (s' ++ (g ++ (t' ++ r'))) (s ++ (g ++ (t ++ r))) (omega (arith, k, wide)) ∙ ap (word_at place) (sym mv.old);
+      long = mv.long;
+      front = wide;
+      aligned = ap (λ (n : ℕ). n % 4 == 0) pw ∙ (aligned bytes h.header).structure;
+      inside = omega (arith, second, pw);
+      structure_at = mv.structure_at;
+      structure_size = mv.structure_size;
+      strings_at = mv.strings_at;
+      strings_size = mv.strings_size;
+      size = mv.size;
+      whole = mv.whole;
+    }) reserved o tree changed h boot_cpu is root
+    (λ x. subst (λ (rs : List (ℕ × ℕ)). Reserves rs (drop (word_at 16 bytes) p ++ x)) (sym reserves) (reserves_front tree.reserves (drop (word_at 16 bytes) p) f.behind x f.enough f.pairs))

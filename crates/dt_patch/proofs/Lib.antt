@@ -5,9 +5,11 @@ mod Fills
 mod Firsts
 mod Found
 mod Laid
+mod Lists
 mod Makes
 mod Named
 mod Nodes
+mod Pairs
 mod Puts
 mod Rooms
 mod Sets

@@ -2,4 +2,5 @@ pub mod Adding
 pub mod Order
 pub mod Private
 pub mod Removing
+pub mod Reserving
 pub mod Setting

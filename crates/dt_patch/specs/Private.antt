@@ -5,4 +5,5 @@ pub mod Naming
 pub mod Pieces
 pub mod Places
 pub mod Planning
+pub mod Reservations
 pub mod Splicing

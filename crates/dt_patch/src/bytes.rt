@@ -1,6 +1,6 @@
 //! Bytes written in the place of others.
 ghost use Rattle.std.specs.Prelude.{◌≡◌, ◌+◌, ◌-◌, ◌%◌, ◌≤◌, ◌<◌, ◌^◌, length};
-ghost use Rattle.dt_blob.specs.BigEndian.{word};
+ghost use Rattle.dt_blob.specs.BigEndian.{double_word, word};
 ghost use Rattle.dt_blob.specs.Blob.{padding};
 ghost use Rattle.dt_patch.specs.Private.Places.{put_at};
 ghost use Rattle.dt_patch.specs.Private.Cutting.{node_bytes};
@@ -31,6 +31,17 @@ pub(crate) fn put_word(blob: &mut [u8], at: usize, number: u32)
 {
     let mut bytes = [0; 4];
     BigEndian::write_u32(&mut bytes, number);
+    put(blob, at, &bytes);
+}
+
+/// Puts a number of 64 bits at a place.
+#[tactic(auto, unfolding(dt_blob::specs::BigEndian::double_word))]
+pub(crate) fn put_long(blob: &mut [u8], at: usize, number: u64)
+    requires { at + 8 ≤ length blob.old }
+    ensures { blob.new ≡ put_at blob.old at (double_word number) }
+{
+    let mut bytes = [0; 8];
+    BigEndian::write_u64(&mut bytes, number);
     put(blob, at, &bytes);
 }
 

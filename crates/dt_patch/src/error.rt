@@ -26,4 +26,8 @@ pub enum PatchError {
     Exists,
     /// The node stands at the greatest depth that a node can have.
     TooDeep,
+    /// The address and the size are both zero, as those that end the list of reserved memory.
+    EndPair,
+    /// No reservation has the place.
+    NoReservation,
 }

@@ -76,6 +76,14 @@ pub(crate) fn layout_of(blob: &[u8]) -> Layout
     }
 }
 
+/// Where the reserved memory begins, as the header says.
+pub(crate) fn reserves_at(blob: &[u8]) -> usize
+    requires { 40 ≤ length blob.now }
+    ensures { result ≡ word_at 16 blob.now }
+{
+    word(blob, 16) as usize
+}
+
 /// Makes the header say where the blocks stand.
 pub(crate) fn lay(blob: &mut [u8], layout: &Layout)
     requires whole { 40 ≤ length blob.old }

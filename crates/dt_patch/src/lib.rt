@@ -9,10 +9,12 @@ mod naming;
 mod placing;
 mod planning;
 mod removing;
+mod reserving;
 mod setting;
 mod splicing;
 
 pub use adding::add_node;
 pub use error::PatchError;
 pub use removing::{delete_node, delete_property};
+pub use reserving::{add_reservation, delete_reservation};
 pub use setting::{set, set_in_place};

@@ -1,7 +1,7 @@
 -- What a refusal of a change is told as.
-use Rattle.std.proofs.Common.{◌≡◌, ℕ, ap, arith}
+use Rattle.std.proofs.Common.{◌≡◌, ap, arith}
 use Rattle.dt_patch.specs.declared.error.PatchError.{PatchError}
-use Rattle.dt_patch.specs.declared.error.PatchError.TheVariants.{BadName, BadPath, Blob, Exists, NoNode, NoProperty, OtherLength, Root, Short, TooDeep, Unordered}
+use Rattle.dt_patch.specs.declared.error.PatchError.TheVariants.{BadName, BadPath, Blob, EndPair, Exists, NoNode, NoProperty, NoReservation, OtherLength, Root, Short, TooDeep, Unordered}
 use Rattle.dtman_view_c.specs.declared.told.ViewTold.{ViewTold}
 use Rattle.dtman_view_c.specs.Told.{done, unchanged}
 
@@ -18,3 +18,5 @@ never (Short wanted) h = let bad : 12 ≡ 0 = ap (λ (t : ViewTold). t.status) h
 never Root h = let bad : 14 ≡ 0 = ap (λ (t : ViewTold). t.status) h in omega (arith, bad)
 never Exists h = let bad : 15 ≡ 0 = ap (λ (t : ViewTold). t.status) h in omega (arith, bad)
 never TooDeep h = let bad : 16 ≡ 0 = ap (λ (t : ViewTold). t.status) h in omega (arith, bad)
+never EndPair h = let bad : 17 ≡ 0 = ap (λ (t : ViewTold). t.status) h in omega (arith, bad)
+never NoReservation h = let bad : 4 ≡ 0 = ap (λ (t : ViewTold). t.status) h in omega (arith, bad)

@@ -1,9 +1,9 @@
 -- What crosses to a caller in C: how a call ended, and what it found.
-use Rattle.std.specs.Prelude.{◌≡◌, ℕ, List, Option, Some, None, Result, Ok, Err}
+use Rattle.std.specs.Prelude.{◌≡◌, ℕ, Option, Some, None, Result, Ok, Err}
 use Rattle.dt_blob.specs.BlobError.{number_of}
 use Rattle.dt_blob.specs.declared.error.BlobError.{BlobError}
 use Rattle.dt_patch.specs.declared.error.PatchError.{PatchError}
-use Rattle.dt_patch.specs.declared.error.PatchError.TheVariants.{BadName, Blob, Exists, NoNode, NoProperty, OtherLength, Root, Short, TooDeep, Unordered}
+use Rattle.dt_patch.specs.declared.error.PatchError.TheVariants.{BadName, Blob, EndPair, Exists, NoNode, NoProperty, NoReservation, OtherLength, Root, Short, TooDeep, Unordered}
 use Rattle.dt_patch.specs.declared.error.PatchError.TheVariants as patch
 use Rattle.dt_view.specs.declared.error.ViewError.{ViewError}
 use Rattle.dt_view.specs.declared.error.ViewError.TheVariants.{BadOffset, BadPath}
@@ -61,6 +61,10 @@ exists = record { status = 15; number = 0; at = 0 }
 abbrev pub too_deep : ViewTold
 too_deep = record { status = 16; number = 0; at = 0 }
 
+-- the address and the size would end the list
+abbrev pub end_pair : ViewTold
+end_pair = record { status = 17; number = 0; at = 0 }
+
 -- why a blob wasn't changed
 abbrev pub unchanged : PatchError → ViewTold
 unchanged (Blob error) = refused error
@@ -74,6 +78,8 @@ unchanged (Short wanted) = short wanted
 unchanged Root = is_root
 unchanged Exists = exists
 unchanged TooDeep = too_deep
+unchanged EndPair = end_pair
+unchanged NoReservation = nothing
 
 abbrev pub edited : Option PatchError → ViewTold
 edited None = done 0

@@ -40,6 +40,9 @@ const EXISTS: u32 = 15;
 /// The node stands at the greatest depth.
 const TOO_DEEP: u32 = 16;
 
+/// The address and the size would end the list.
+const END_PAIR: u32 = 17;
+
 /// How a call of a view ended, and the offset or the number that it tells.
 #[repr(C)]
 #[derive(Clone, Copy)]
@@ -100,6 +103,8 @@ pub(crate) fn unchanged(error: PatchError) -> ViewTold
         PatchError::Root => ended(ROOT, 0, 0),
         PatchError::Exists => ended(EXISTS, 0, 0),
         PatchError::TooDeep => ended(TOO_DEEP, 0, 0),
+        PatchError::EndPair => ended(END_PAIR, 0, 0),
+        PatchError::NoReservation => nothing(),
     }
 }
 

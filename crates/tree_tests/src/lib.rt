@@ -18,6 +18,8 @@ mod merges;
 #[cfg(test)]
 mod patches;
 #[cfg(test)]
+mod removals;
+#[cfg(test)]
 mod trees;
 #[cfg(test)]
 mod versions;

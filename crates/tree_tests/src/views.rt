@@ -74,6 +74,8 @@ struct Steps {
     sibling: Option<usize>,
     next: Option<usize>,
     property: Option<usize>,
+    parent: Option<usize>,
+    depth: usize,
 }
 
 const WALKS: &[Steps] = &[
@@ -83,6 +85,8 @@ const WALKS: &[Steps] = &[
         sibling: None,
         next: Some(8),
         property: None,
+        parent: None,
+        depth: 0,
     },
     Steps {
         at: 8,
@@ -90,6 +94,8 @@ const WALKS: &[Steps] = &[
         sibling: Some(72),
         next: Some(52),
         property: Some(16),
+        parent: Some(0),
+        depth: 1,
     },
     Steps {
         at: 52,
@@ -97,6 +103,8 @@ const WALKS: &[Steps] = &[
         sibling: None,
         next: Some(72),
         property: None,
+        parent: Some(8),
+        depth: 2,
     },
     Steps {
         at: 68,
@@ -104,6 +112,8 @@ const WALKS: &[Steps] = &[
         sibling: None,
         next: None,
         property: Some(80),
+        parent: Some(0),
+        depth: 1,
     },
     Steps {
         at: 72,
@@ -111,6 +121,8 @@ const WALKS: &[Steps] = &[
         sibling: None,
         next: None,
         property: Some(80),
+        parent: Some(0),
+        depth: 1,
     },
 ];
 
@@ -124,6 +136,8 @@ fn is_walked(rt: &impl Abort, view: &View<'_>, row: &Steps) {
         row.at
     );
     assert_eq!(rt; place(rt, view.next_node(from)), row.next, "{}", row.at);
+    assert_eq!(rt; place(rt, view.parent(from)), row.parent, "{}", row.at);
+    assert_eq!(rt; view.depth(from), Ok(row.depth), "{}", row.at);
     assert_eq!(rt;
         property_place(rt, view.first_property(from)),
         row.property,

@@ -1,5 +1,4 @@
 use Rattle.std.proofs.Common.{refl}
-use Rattle.dt_view.specs.Standing.{StandsAt}
 use Rattle.dtman_view_c.proofs.parts.dtman_view_root.Goals as goal
 
 pub returns-in-Ok : goal.returns-in-Ok

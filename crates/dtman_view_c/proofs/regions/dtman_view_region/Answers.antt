@@ -1,4 +1,4 @@
-use Rattle.std.proofs.Common.{◌≡◌, Option, Some, None, refl, subst}
+use Rattle.std.proofs.Common.{◌≡◌, Option, Some, refl, subst}
 use Rattle.dt_view.specs.declared.regions.Region.{Region}
 use Rattle.dtman_view_c.specs.declared.told.ViewTold.{ViewTold}
 use Rattle.dtman_view_c.specs.Parts.{IsGiven}
