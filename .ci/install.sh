@@ -23,7 +23,7 @@ has() {
 make -s install PREFIX=/usr DESTDIR="$work"
 python3 .ci/pages.py
 
-for words in "" compile overlay dump plan replay probe why needs drivers trace explain; do
+for words in "" compile overlay dump plan replay probe why needs drivers trace check explain; do
 	# shellcheck disable=SC2086
 	bin/dtman $words --help | awk 'length > 80 { exit 1 }' || fail "dtman $words --help has a line of more than 80 columns"
 done
@@ -51,7 +51,7 @@ cd "$work/folder"
 touch board.dts board.dtb hat.dtbo board.drivers board.plan boot.schedule boot.log README
 # The line, and what is offered; folders are offered beside files.
 offers="
-c|compile
+c|check compile
 compile |board.dts sub
 compile board.dts |board.dtb hat.dtbo sub
 compile --s|--symbols
@@ -65,6 +65,9 @@ replay board.plan --workers 4 |boot.schedule sub
 probe board.dtb board.drivers --w|--without --workers
 why board.dtb |board.drivers sub
 trace |boot.log sub
+check |board.dtb board.dts hat.dtbo sub
+check board.dts |board.dtb board.dts hat.dtbo sub
+check --k|--known
 explain 6|60 61 62 63 64 65 66 67
 "
 

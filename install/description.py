@@ -22,12 +22,14 @@ class Operand:
 
 @dataclass(frozen=True)
 class Option:
-    """An option, with the name of its value where it has one, and what --help says of a default. One that takes a folder may be given again."""
+    """An option, with the name of its value where it has one, and what --help says of a default. One that takes a folder may be given
+    again, and so may one that is repeated."""
 
     names: str
     about: str
     value: str = ""
     default: str = ""
+    repeated: bool = False
 
     @property
     def takes_folder(self):
@@ -49,6 +51,7 @@ class Command:
 KINDS = {
     "source": (".dts",),
     "blob": (".dtb", ".dtbo"),
+    "tree": (".dts", ".dtb", ".dtbo"),
     "drivers": (".drivers",),
     "plan": (".plan",),
     "schedule": (".schedule",),
@@ -59,8 +62,10 @@ KINDS = {
 
 HELP = Option("-h, --help", "Print help")
 VERSION = Option("-V, --version", "Print version")
-# Before or behind any command. The program takes it from the words before clap sees them, so that no page of help lists it.
+# Before or behind any command. The program takes them from the words before clap sees them, so that no page of help lists them but
+# for `--json` that of `check`, whose mistakes are objects then, too.
 VERBOSE = Option("-v, --verbose", "Tells of a refusal where it is and of what, in further lines")
+JSON = Option("--json", "Tells of a refusal as an object of JSON in one line")
 
 OUT = Operand("OUT", "blob", "The blob, which is written once all of it is ready")
 DRIVERS = Operand("DRIVERS", "drivers", "The driver file")
@@ -232,6 +237,32 @@ COMMANDS = (
         "50 to 53 and 56 with the line of the plan file",
     ),
     Command(
+        "check",
+        "Tells the mistakes in sources and blobs that dtc warns of",
+        (Operand("IN", "tree", "The sources or blobs", repeated=True),),
+        (
+            Option("--dtc", "Takes a source in dtc's language, as always"),
+            Option("-i, --include", "Looks there, too, for files that the source takes in", "DIR"),
+            Option("-W, --warning", "This check warns; no-CHECK, it doesn't", "CHECK", repeated=True),
+            Option("-E, --error", "This check is an error; no-CHECK, it is none", "CHECK", repeated=True),
+            Option("-q, --quiet", "Leaves out warnings; twice, errors too", repeated=True),
+            Option("--json", "Prints an object of JSON a line"),
+            Option("--known", "What --learn wrote: tells misspelled properties", "FILE"),
+            Option("--learn", "Prints what nodes have on these boards, for --known"),
+        ),
+        (
+            "Prints the mistakes that the checks of dtc see in sources and blobs, and buses that lost their `ranges`, one a line, by the user's own"
+            " file, line and columns. A source is read in dtc's language. Where a mistake is an error the status is 1.",
+            "With `--learn` it prints a line for each property of a node that has `compatible`; with `--known` such a file of boards that are"
+            " right says which properties are misspelled.",
+        ),
+        (
+            ("The mistakes in a board", "dtman check -i include board.dts"),
+            ("What boards that are right teach", "dtman check --learn *.dtb >boards.known\ndtman check --known boards.known board.dts"),
+        ),
+        "10 to 17 with the line of the source, 20 to 28, 30 to 38, and 50 with the line of FILE",
+    ),
+    Command(
         "diff",
         "Compares the boards of two blobs, phandles by the paths they name",
         (Operand("FIRST", "blob", "The one blob"), Operand("SECOND", "blob", "The other blob")),
@@ -293,7 +324,7 @@ COMMANDS = (
         "Says what an error means and what to do; alone it lists all",
         (Operand("NUMBER", "number", "The number behind `error`, or the name"),),
         (),
-        ("Says what an error means, the smallest input that gives it, what to do, and what --verbose tells of that input.",),
+        ("Says what an error means, the smallest input that gives it, what to do, and what --verbose tells of that input. A name may be in any case.",),
         (("What an error means", "dtman explain 63"),),
         "none",
     ),
@@ -302,7 +333,7 @@ COMMANDS = (
 STATUSES = (
     ("0", "Done."),
     ("1", "Refused. One line on standard error tells it: `error NUMBER NAME`, with ` line L` or ` event N` where there is one. With `-v` or `--verbose` before or behind any"
-        " command, or `DTMAN_VERBOSE=1` in the environment, further lines say where it is and of what."),
+        " command, or `DTMAN_VERBOSE=1` in the environment, further lines say where it is and of what. With `--json` it is an object of JSON in one line instead."),
     ("2", "The command line is no command."),
     ("3", "A file can't be read (80) or written (81), or is too long (82), or nobody reads the output any more, which isn't told."),
 )

@@ -10,7 +10,7 @@ import textwrap
 
 import description as told
 
-GLOBALS = (told.HELP, told.VERBOSE, told.VERSION)
+GLOBALS = (told.HELP, told.VERBOSE, told.JSON, told.VERSION)
 ROOT = os.path.dirname(os.path.dirname(os.path.realpath(__file__)))
 
 
@@ -76,7 +76,7 @@ def small(about):
 
 def synopsis(command):
     options = "".join(f"\n.Op Fl {words_of([it])[0].removeprefix('-')}{f' Ar {it.value}' if it.value else ''}" for it in command.options)
-    operands = "".join(f"\n.{'Op ' if it.optional else ''}Ar {it.name}" for it in command.operands)
+    operands = "".join(f"\n.{'Op ' if it.optional else ''}Ar {it.name}{' ...' if it.repeated else ''}" for it in command.operands)
     return f".Nm dtman {command.name}{options}{operands}"
 
 
@@ -199,14 +199,21 @@ def words_of(options):
     return [word for it in options for word in it.names.split(", ")]
 
 
+def anywhere(command):
+    """What may stand behind any command, as far as this one hasn't an option of the name."""
+    own = words_of(command.options)
+    return [it for it in (told.HELP, told.VERBOSE, told.JSON) if not set(words_of([it])) & set(own)]
+
+
 def bash():
     cases = []
     for it in told.COMMANDS:
         kinds = " ".join(operand.kind for operand in it.operands)
+        rest = " ".join(operand.kind for operand in it.operands if operand.repeated)
         taking = " ".join(words_of(option for option in it.options if option.value))
         folders = " ".join(words_of(option for option in it.options if option.takes_folder))
-        options = " ".join(words_of((*it.options, told.HELP, told.VERBOSE)))
-        cases.append(f'\t{it.name}) kinds="{kinds}" options="{options}" taking="{taking}" folders="{folders}" ;;')
+        options = " ".join(words_of((*it.options, *anywhere(it))))
+        cases.append(f'\t{it.name}) kinds="{kinds}" rest="{rest}" options="{options}" taking="{taking}" folders="{folders}" ;;')
     endings = [f'\t{kind}) endings="{"|".join(its)}" ;;' for kind, its in told.KINDS.items()]
     return BASH.format(
         commands=" ".join(it.name for it in told.COMMANDS),
@@ -219,7 +226,7 @@ def bash():
 
 BASH = """# Completions of dtman for bash. Made of install/description.py.
 _dtman() {{
-	local word=${{COMP_WORDS[COMP_CWORD]}} command="" kinds="" options="" taking="" folders="" endings="" place=0 it
+	local word=${{COMP_WORDS[COMP_CWORD]}} command="" kinds="" rest="" options="" taking="" folders="" endings="" place=0 it
 	COMPREPLY=()
 	for it in "${{COMP_WORDS[@]:1:COMP_CWORD-1}}"; do
 		# `--workers=4` comes as three words
@@ -252,7 +259,7 @@ _dtman() {{
 		return
 	fi
 	kinds=($kinds)
-	case ${{kinds[place]}} in
+	case ${{kinds[place]:-$rest}} in
 {endings}
 	number)
 		mapfile -t COMPREPLY < <(compgen -W "{numbers}" -- "$word")
@@ -277,20 +284,16 @@ def zsh_glob(endings):
 
 
 def zsh_option(option):
-    """An option with two names, either of which stands for the other, unless it may be given again with one more folder."""
+    """An option with its value. Where it has two names either stands for the other, unless it may be given again."""
     names = words_of([option])
-    if option.takes_folder:
+    front = "*" if option.takes_folder or option.repeated else f"({' '.join(names)})"
+    told_of = f"[{quoted(option.about)}]"
+    if option.value:
         names = [it + "=" if it.startswith("--") else it for it in names]
-        return f"'*'{{{','.join(names)}}}'[{quoted(option.about)}]:{option.value}:_files -/'"
-    return f"'({' '.join(names)})'{{{','.join(names)}}}'[{quoted(option.about)}]'"
-
-
-def zsh_spec(option):
-    """An option of a command, with its value."""
-    if option.takes_folder:
-        return zsh_option(option)
-    value = f"=[{quoted(option.about)}]:{option.value}: " if option.value else f"[{quoted(option.about)}]"
-    return f"'({option.names}){option.names}{value}'"
+        told_of += f":{option.value}:{'_files -/' if option.takes_folder else ' '}"
+    if len(names) == 1:
+        return f"'{front}{names[0]}{told_of}'"
+    return f"'{front}'{{{','.join(names)}}}'{told_of}'"
 
 
 def zsh_action(operand):
@@ -304,14 +307,13 @@ def zsh():
     commands = "\n".join(f"\t\t'{it.name}:{quoted(it.about)}'" for it in told.COMMANDS)
     cases = []
     for it in told.COMMANDS:
-        specs = [zsh_spec(option) for option in it.options]
-        specs += [zsh_option(told.HELP), zsh_option(told.VERBOSE)]
+        specs = [zsh_option(option) for option in (*it.options, *anywhere(it))]
         for operand in it.operands:
             front = "*:" if operand.repeated else "::" if operand.optional else ":"
             specs.append(f"'{front}{operand.name}:{zsh_action(operand)}'")
         cases.append(f"\t{it.name})\n\t\t_arguments " + " \\\n\t\t\t".join(specs) + "\n\t\t;;")
     numbers = "\n".join(f"\t\t'{number}:{name}'" for number, name in errors())
-    return ZSH.format(verbose=zsh_option(told.VERBOSE), commands=commands, cases="\n".join(cases), numbers=numbers)
+    return ZSH.format(globals=" ".join(map(zsh_option, (told.VERBOSE, told.JSON))), commands=commands, cases="\n".join(cases), numbers=numbers)
 
 
 ZSH = """#compdef dtman
@@ -333,7 +335,7 @@ _dtman_commands() {{
 
 _dtman() {{
 	local curcontext=$curcontext state
-	_arguments -C '(- :)'{{-h,--help}}'[Print help]' '(- :)'{{-V,--version}}'[Print version]' {verbose} ':command:_dtman_commands' '*::argument:->arguments'
+	_arguments -C '(- :)'{{-h,--help}}'[Print help]' '(- :)'{{-V,--version}}'[Print version]' {globals} ':command:_dtman_commands' '*::argument:->arguments'
 	[[ $state == arguments ]] || return
 	case $words[1] in
 {cases}
@@ -378,6 +380,7 @@ def fish():
         "complete -c dtman -n '__fish_use_subcommand' -s h -l help -d 'Print help'",
         "complete -c dtman -n '__fish_use_subcommand' -s V -l version -d 'Print version'",
         f"complete -c dtman -s v -l verbose -d '{quoted(told.VERBOSE.about)}'",
+        f"complete -c dtman -l json -d '{quoted(told.JSON.about)}'",
     ]
     for it in told.COMMANDS:
         about = quoted(it.about)
@@ -388,7 +391,7 @@ def fish():
             value = " -x -a '(__fish_complete_directories)'" if option.takes_folder else " -x" if option.value else ""
             lines.append(f"complete -c dtman {seen}{names}{value} -d '{quoted(option.about)}'")
         for place, operand in enumerate(it.operands, 1):
-            wants = f"-n '__dtman_wants {it.name} {place}'"
+            wants = seen if operand.repeated else f"-n '__dtman_wants {it.name} {place}'"
             if operand.kind == "number":
                 lines += [f"complete -c dtman {wants} -a {number} -d {name}" for number, name in errors()]
             elif operand.kind in told.KINDS:

@@ -9,4 +9,4 @@ mod node_rows;
 mod tracing;
 
 pub use culprit::{Culprit, Entry, Fault, Provider, Reason};
-pub use tracing::{Trace, trace_plan};
+pub use tracing::{Trace, device_paths, trace_plan};

@@ -50,6 +50,18 @@ pub fn trace_plan<'t>(alloc: Global, tree: &'t Tree) -> Result<Option<Trace<'t>>
     }
 }
 
+/// The paths of a tree's devices, in the order of the tree: as many as a plan may have.
+pub fn device_paths(alloc: Global, tree: &Tree) -> Result<Vec<Vec<u8>>, AllocError> {
+    let nodes = NodeRows::of(alloc, tree)?;
+    let mut paths = Vec::new(alloc);
+    for (node, row) in nodes.rows.iter().enumerate() {
+        if is_device(node, row) && paths.len() < MAX_DEVICES {
+            paths.push(path_of(alloc, &nodes, node)?)?;
+        }
+    }
+    Ok(paths)
+}
+
 fn find_property<'t>(nodes: &NodeRows<'t>) -> Option<Culprit<'t>> {
     for (node, row) in nodes.rows.iter().enumerate() {
         if is_device(node, row) {

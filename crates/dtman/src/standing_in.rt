@@ -1,8 +1,8 @@
-//! `dtman` in the place of the programs of dtc's package: by `dtman dtc ..` and the like, or by a link of that name; and `dtman check ..`.
+//! `dtman` in the place of the programs of dtc's package: by `dtman dtc ..` and the like, or by a link of that name.
 
 use crate::engine::Engine;
 use crate::files::System;
-use dtman_dtc::{run_check, run_dtc, run_fdtoverlay};
+use dtman_dtc::{run_dtc, run_fdtoverlay};
 use dtman_fdt::{run_fdtdump, run_fdtget, run_fdtput};
 use std::env;
 use std::random::RandomSource;
@@ -16,8 +16,6 @@ enum Tool {
     Fdtget,
     Fdtput,
     Fdtdump,
-    /// The checks alone, which no link asks for.
-    Check,
 }
 
 /// Runs a tool where the words ask for one, and answers its exit status.
@@ -39,7 +37,6 @@ pub fn stand_in<
         Tool::Fdtget => run_fdtget(rt.alloc(), &mut system, rest),
         Tool::Fdtput => run_fdtput(rt.alloc(), &mut system, rest),
         Tool::Fdtdump => run_fdtdump(rt.alloc(), &mut system, rest),
-        Tool::Check => run_check(rt.alloc(), &mut system, &mut engine, rest),
     })
 }
 
@@ -54,9 +51,6 @@ fn asked<'a, 'b>(words: &'b [&'a str]) -> Option<(Tool, &'b [&'a str])> {
         return Some((tool, rest));
     }
     let (first, rest) = rest.split_first()?;
-    if *first == "check" {
-        return Some((Tool::Check, rest));
-    }
     Some((tool_of(*first)?, rest))
 }
 

@@ -4,10 +4,11 @@ use Rattle.std.specs.Borrow.{Bor}
 use Rattle.std.specs.Str.{bytes_eq}
 use Rattle.std.specs.Str.Parse.{IsNumeral, digits_value, without_leading_plus}
 use Rattle.bus_manager.specs.Workers.{most_workers}
-use Rattle.clap.specs.Words.{Row, Text, all_of, first_of, one_of, subcommand_of}
+use Rattle.clap.specs.Words.{Row, Text, all_of, count_of, first_of, one_of, subcommand_of}
 use Rattle.dtman_cli.specs.declared.subcommand.Command.{Command}
-use Rattle.dtman_cli.specs.declared.subcommand.Command.TheVariants.{Compile, Overlay, Dump, Plan, Replay, Probe, Why, Needs, Drivers, Trace, Diff, Get, Listing, Set, Explain}
+use Rattle.dtman_cli.specs.declared.subcommand.Command.TheVariants.{Compile, Overlay, Dump, Plan, Replay, Probe, Why, Needs, Drivers, Trace, Check, Diff, Get, Listing, Set, Explain}
 use Rattle.dtman_cli.specs.declared.subcommand.Board.{Board}
+use Rattle.dtman_cli.specs.declared.subcommand.Inspection.{Inspection}
 use Rattle.dtman_cli.specs.declared.subcommand.Links.{Links}
 use Rattle.dtman_cli.specs.declared.subcommand.Picture.{Picture}
 use Rattle.dtman_cli.specs.declared.subcommand.Language.{Language}
@@ -62,6 +63,21 @@ abbrev pub IsPicture : Picture → List Row → Type 0
 IsPicture picture rows =
     (picture.dot ≡ is_on (first_of (codes "dot") rows)) × (picture.html ≡ is_on (first_of (codes "html") rows)) × IsText picture.of (codes "of") rows
 
+-- which checks are to warn and to be errors, as often as they are named
+abbrev pub AreSelected : Inspection → List Row → Type 0
+AreSelected inspection rows =
+    (map (λ check. check.now) inspection.warnings.items ≡ texts_of (codes "warning") rows)
+    × (map (λ check. check.now) inspection.errors.items ≡ texts_of (codes "error") rows)
+
+-- what is checked, and how its mistakes are told
+abbrev pub IsInspection : Inspection → List Row → Type 0
+IsInspection inspection rows =
+    (map (λ path. path.now) inspection.inputs.items ≡ texts_of (codes "IN") rows)
+    × (map (λ folder. folder.now) inspection.folders.items ≡ texts_of (codes "include") rows)
+    × AreSelected inspection rows × IsText inspection.known (codes "known") rows
+    × (inspection.quiet ≡ count_of (codes "quiet") rows)
+    × (inspection.json ≡ is_on (first_of (codes "json") rows)) × (inspection.learn ≡ is_on (first_of (codes "learn") rows))
+
 -- the subcommand that was met, with the values of its arguments
 abbrev pub IsMet : Command → Text → List Row → Type 0
 IsMet (Compile source out symbols language) name rows =
@@ -83,6 +99,7 @@ IsMet (Trace log plan) name rows =
 IsMet (Replay plan schedule workers) name rows =
     (name ≡ codes "replay") × (first_of (codes "PLAN") rows ≡ Some plan.now) × (first_of (codes "SCHEDULE") rows ≡ Some schedule.now)
     × AreAsked workers rows
+IsMet (Check inspection) name rows = (name ≡ codes "check") × IsInspection inspection rows
 IsMet (Diff first second) name rows =
     (name ≡ codes "diff") × (first_of (codes "FIRST") rows ≡ Some first.now) × (first_of (codes "SECOND") rows ≡ Some second.now)
 IsMet (Get blob path property kind) name rows =

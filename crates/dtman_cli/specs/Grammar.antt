@@ -1,7 +1,7 @@
 -- What the command line may say: each subcommand with its arguments, as clap's definitions have them.
 use Rattle.std.specs.Prelude.{ℕ, [], ◌∷◌, Some, true, false, codes}
 use Rattle.bus_manager.specs.Workers.{most_workers}
-use Rattle.clap.specs.declared.builder.action.ArgAction.TheVariants.{SetTrue, Append}
+use Rattle.clap.specs.declared.builder.action.ArgAction.TheVariants.{SetTrue, Append, Count}
 use Rattle.clap.specs.declared.builder.value_parser.ValueParser.TheVariants.{Unsigned}
 use Rattle.clap.specs.Words.{App, Rule, Text, new_app, new_rule, with_rule, with_subcommand}
 
@@ -96,6 +96,34 @@ lettered id short = record (new_rule id) { long = Some id; short = Some short; v
 abbrev pub others : Text → Rule
 others id = record (new_rule id) { action = Some Append }
 
+-- an option that has a short name too, and may be given again and again, with a text each time
+abbrev pub listed : Text → ℕ → Rule
+listed id short = record (new_rule id) { long = Some id; short = Some short; action = Some Append; value_names = 1 }
+
+-- an option without a value that is counted
+abbrev pub counted : Text → ℕ → Rule
+counted id short = record (new_rule id) { long = Some id; short = Some short; action = Some Count }
+
+-- arguments of which one has to be there, and any number may stand behind it
+abbrev pub several : Text → Rule
+several id = record (new_rule id) { required = true; action = Some Append }
+
+-- which checks are made
+abbrev pub with_selection : App → App
+with_selection app = with_rule (with_rule app (listed (codes "warning") 87)) (listed (codes "error") 69)
+
+-- how what they find is told
+abbrev pub with_telling : App → App
+with_telling app = with_rule (with_rule app (counted (codes "quiet") 113)) (flag (codes "json"))
+
+abbrev pub check : App
+check =
+    with_rule
+    (with_rule
+    (with_telling (with_selection (with_rule (with_rule (with_rule (new_app (codes "check")) (several (codes "IN"))) (flag (codes "dtc"))) (listed (codes "include") 105))))
+    (asked_text (codes "known")))
+    (flag (codes "learn"))
+
 abbrev pub diff : App
 diff = with_rule (with_rule (new_app (codes "diff")) (required (codes "FIRST"))) (required (codes "SECOND"))
 
@@ -126,9 +154,9 @@ top = let a = new_app (codes "dtman") in record a { top = record a.top { has_ver
 abbrev pub with_questions : App → App
 with_questions app = with_subcommand (with_subcommand (with_subcommand (with_subcommand app why.top) needs.top) drivers.top) trace.top
 
--- those of the nodes and values of blobs
+-- those of the mistakes, the nodes and the values of blobs
 abbrev pub with_blobs : App → App
-with_blobs app = with_subcommand (with_subcommand (with_subcommand (with_subcommand app diff.top) get.top) list.top) set.top
+with_blobs app = with_subcommand (with_subcommand (with_subcommand (with_subcommand (with_subcommand app check.top) diff.top) get.top) list.top) set.top
 
 unfoldable pub dtman : App
 dtman =

@@ -1,6 +1,6 @@
 //! Commands that make blobs, or read them: `compile`, `overlay`, `dump`.
 
-use crate::compiling::{Manner, dtc_blob, profile_blob};
+use crate::compiling::{Made, Manner, dtc_made, profile_blob};
 use crate::diagnosing::{Inputs, file_of};
 use crate::failure::Failure;
 use crate::host::Host;
@@ -27,14 +27,15 @@ pub fn compiled<'a, S: Surroundings, E: Eprint, T>(
     let bytes = match language {
         Language::Profile => profile_blob(host.alloc, hasher, text, manner)?,
         Language::Dtc { folders } => {
-            dtc_blob(
+            let Made { blob, .. } = dtc_made(
                 host.alloc,
                 hasher,
                 host.surroundings,
                 folders.as_slice(),
                 text,
                 manner,
-            )?
+            )?;
+            blob
         }
     };
     Ok(Answer::File { path: out, bytes })

@@ -44,15 +44,22 @@ pub fn profile_blob<'a>(
     }
 }
 
+/// A blob, and the source with all that it takes in.
+#[derive(Drop)]
+pub struct Made {
+    pub blob: Vec<u8>,
+    pub text: Vec<u8>,
+}
+
 /// The blob of a source in dtc's language, which takes in files beside it and in folders.
-pub fn dtc_blob<'a, S: Surroundings>(
+pub fn dtc_made<'a, S: Surroundings>(
     alloc: Global,
     hasher: RandomState,
     surroundings: &mut S,
     folders: &[&str],
     source: Given<'_>,
     manner: Manner,
-) -> Result<Vec<u8>, Failure<'a>> {
+) -> Result<Made, Failure<'a>> {
     let mut files = Folders {
         surroundings,
         folders,
@@ -70,18 +77,18 @@ pub fn dtc_blob<'a, S: Surroundings>(
         source.bytes,
         options,
     );
-    blob_of(alloc, plain(source.name), manner, outcome)
+    made_of(alloc, plain(source.name), manner, outcome)
 }
 
-fn blob_of<'a>(
+fn made_of<'a>(
     alloc: Global,
     name: &[u8],
     manner: Manner,
     outcome: Outcome,
-) -> Result<Vec<u8>, Failure<'a>> {
+) -> Result<Made, Failure<'a>> {
     match outcome {
         Outcome::Answered { text, answer } => match answer {
-            Ok(blob) => Ok(blob),
+            Ok(blob) => Ok(Made { blob, text }),
             Err(fault) => {
                 let symbols = manner.symbols;
                 let bytes = text.as_slice();

@@ -2,7 +2,7 @@
 
 use crate::diagnosing::{Inputs, diagnosed};
 use crate::failure::Failure;
-use dtman_diagnosis::{Diagnosis, text_of};
+use dtman_diagnosis::{Diagnosis, json_of, text_of};
 use dtman_engine::Fault;
 use std::alloc::{AllocError, Global};
 
@@ -13,6 +13,8 @@ pub enum Detail {
     Line,
     /// where and what, too
     Verbose,
+    /// the same as an object of JSON
+    Json,
 }
 
 /// The words of a command line without those that ask for detail, which stand before or behind any others up to `--`.
@@ -22,7 +24,8 @@ pub struct Asked<'a> {
     pub detail: Detail,
 }
 
-/// Takes the words that ask for detail out, and lets `explain` alone ask for all errors.
+/// Takes the words that ask for detail out, but for `--json` behind `check`, which has that option itself, and lets `explain` alone ask
+/// for all errors.
 pub fn asked_for<'a>(alloc: Global, words: &[&'a str]) -> Result<Asked<'a>, AllocError> {
     let mut asked = Asked {
         words: Vec::with_capacity(alloc, words.len().saturating_add(1))?,
@@ -33,10 +36,14 @@ pub fn asked_for<'a>(alloc: Global, words: &[&'a str]) -> Result<Asked<'a>, Allo
         if *word == "--" {
             options = false;
         }
-        if options && (*word == "-v" || *word == "--verbose") {
-            asked.detail = Detail::Verbose;
-        } else {
-            asked.words.push(*word)?;
+        match detail_in(*word) {
+            Some(detail) if options => {
+                asked.detail = asked.detail.with(detail);
+                if detail == Detail::Json && is_check(asked.words.as_slice()) {
+                    asked.words.push(*word)?;
+                }
+            }
+            _ => asked.words.push(*word)?,
         }
     }
     if asked.words.len() == 2 && asked.words.last().copied() == Some("explain") {
@@ -45,17 +52,41 @@ pub fn asked_for<'a>(alloc: Global, words: &[&'a str]) -> Result<Asked<'a>, Allo
     Ok(asked)
 }
 
+// What a word asks for.
+fn detail_in(word: &str) -> Option<Detail> {
+    match word {
+        "-v" | "--verbose" => Some(Detail::Verbose),
+        "--json" => Some(Detail::Json),
+        _ => None,
+    }
+}
+
+fn is_check(words: &[&str]) -> bool {
+    words.get(1).copied() == Some("check")
+}
+
+impl Detail {
+    // With what a further word asks for: an object tells all.
+    fn with(self, other: Detail) -> Detail {
+        match self {
+            Detail::Json => Detail::Json,
+            _ => other,
+        }
+    }
+}
+
 /// A refusal of what a command read, as it is told: by its line, or in detail.
 pub fn told<'a>(alloc: Global, detail: Detail, fault: Fault, inputs: Inputs<'_>) -> Failure<'a> {
     if detail == Detail::Line {
         return Failure::Refused(fault);
     }
-    refusal(alloc, fault, diagnosed(alloc, inputs, fault))
+    refusal(alloc, detail, fault, diagnosed(alloc, inputs, fault))
 }
 
 /// A refusal with its lines. Where there is no memory for them, it has its one line.
 pub fn refusal<'a>(
     alloc: Global,
+    detail: Detail,
     fault: Fault,
     diagnosis: Result<Diagnosis, AllocError>,
 ) -> Failure<'a> {
@@ -63,7 +94,7 @@ pub fn refusal<'a>(
         return Failure::Refused(fault);
     }
     match diagnosis {
-        Ok(diagnosis) => match lines_of(alloc, fault, &diagnosis) {
+        Ok(diagnosis) => match lines_of(alloc, detail, fault, &diagnosis) {
             Ok(lines) => Failure::Told(lines),
             Err(_) => Failure::Refused(fault),
         },
@@ -71,7 +102,15 @@ pub fn refusal<'a>(
     }
 }
 
-fn lines_of(alloc: Global, fault: Fault, diagnosis: &Diagnosis) -> Result<String, AllocError> {
+fn lines_of(
+    alloc: Global,
+    detail: Detail,
+    fault: Fault,
+    diagnosis: &Diagnosis,
+) -> Result<String, AllocError> {
+    if detail == Detail::Json {
+        return json_of(alloc, fault.name, line_in(fault), diagnosis);
+    }
     let first = format!(in alloc; "{fault}")?;
     text_of(alloc, first.as_str(), diagnosis)
 }

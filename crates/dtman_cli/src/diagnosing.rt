@@ -1,8 +1,9 @@
 //! What each command's refusal is of, by the files that it was given.
 
 use dtman_diagnosis::{
-    Diagnosis, Refused, before_event, diagnose_blob, diagnose_dtc, diagnose_event,
-    diagnose_overlay, diagnose_plan, diagnose_source, diagnose_text,
+    BusText, Devices, Diagnosis, Refused, TextKind, before_event, diagnose_blob, diagnose_device,
+    diagnose_dtc, diagnose_event, diagnose_node, diagnose_overlay, diagnose_plan, diagnose_source,
+    diagnose_text,
 };
 use dtman_engine::{Fault, Position, replay_bytes};
 use std::alloc::{AllocError, Global};
@@ -23,6 +24,16 @@ pub fn file_of<'a>(path: &'a str, bytes: &'a Vec<u8>) -> Given<'a> {
     }
 }
 
+/// A board of which a plan is made.
+#[derive(Clone, Copy)]
+pub struct Planned<'a> {
+    pub blob: Given<'a>,
+    pub drivers: Given<'a>,
+    pub kind: TextKind,
+    /// The device that is asked for.
+    pub path: Option<&'a [u8]>,
+}
+
 /// What a command read, of which its refusal is.
 #[derive(Clone, Copy)]
 pub enum Inputs<'a> {
@@ -40,10 +51,15 @@ pub enum Inputs<'a> {
         overlay: Given<'a>,
     },
     Blob(Given<'a>),
-    Plan {
+    /// A blob of which a node is asked for, or a property of that.
+    Node {
         blob: Given<'a>,
-        drivers: Given<'a>,
+        path: &'a [u8],
+        property: &'a [u8],
     },
+    Plan(Planned<'a>),
+    /// What nodes have, for `check`.
+    Reference(Given<'a>),
     Replay {
         plan: Given<'a>,
         schedule: Given<'a>,
@@ -74,7 +90,21 @@ pub fn diagnosed(alloc: Global, inputs: Inputs<'_>, fault: Fault) -> Result<Diag
             number,
         ),
         Inputs::Blob(blob) => diagnose_blob(alloc, blob.name, blob.bytes, number),
-        Inputs::Plan { blob, drivers } => unplanned(alloc, blob, drivers, fault),
+        Inputs::Node {
+            blob,
+            path,
+            property,
+        } => match number {
+            53 => diagnose_node(alloc, blob.name, blob.bytes, path, Some(property)),
+            _ => diagnose_blob(alloc, blob.name, blob.bytes, number),
+        },
+        Inputs::Plan(planned) => unplanned(alloc, planned, fault),
+        Inputs::Reference(text) => diagnose_text(
+            alloc,
+            text_of(text, TextKind::Reference, Devices::None),
+            number,
+            fault.line(),
+        ),
         Inputs::Replay {
             plan,
             schedule,
@@ -83,21 +113,30 @@ pub fn diagnosed(alloc: Global, inputs: Inputs<'_>, fault: Fault) -> Result<Diag
     }
 }
 
-/// What a plan refuses: of the blob, or of the driver file.
-fn unplanned(
-    alloc: Global,
-    blob: Given<'_>,
-    drivers: Given<'_>,
-    fault: Fault,
-) -> Result<Diagnosis, AllocError> {
+fn text_of<'a>(text: Given<'a>, kind: TextKind, devices: Devices<'a>) -> BusText<'a> {
+    BusText {
+        kind,
+        file: text.name,
+        bytes: text.bytes,
+        devices,
+    }
+}
+
+/// What a plan refuses: of the blob, of the driver file, or of the path that is asked for, whose refusal tells no line.
+fn unplanned(alloc: Global, planned: Planned<'_>, fault: Fault) -> Result<Diagnosis, AllocError> {
+    let Planned {
+        blob,
+        drivers,
+        kind,
+        path,
+    } = planned;
+    let line = fault.line();
     match fault.number {
-        50..=53 => diagnose_text(
-            alloc,
-            drivers.name,
-            drivers.bytes,
-            fault.number,
-            fault.line(),
-        ),
+        53 if line.is_none() => diagnose_device(alloc, path.unwrap_or(&[]), blob.bytes),
+        50..=53 => {
+            let drivers = text_of(drivers, kind, Devices::Blob(blob.bytes));
+            diagnose_text(alloc, drivers, fault.number, line)
+        }
         54..=56 => diagnose_plan(alloc, blob.name, blob.bytes, fault.number),
         _ => diagnose_blob(alloc, blob.name, blob.bytes, fault.number),
     }
@@ -112,22 +151,21 @@ fn unreplayed(
     fault: Fault,
 ) -> Result<Diagnosis, AllocError> {
     let (number, line) = (fault.number, fault.line());
+    let devices = Devices::Plan {
+        file: plan.name,
+        bytes: plan.bytes,
+    };
+    let plan_text = text_of(plan, TextKind::Plan, devices);
+    let events = text_of(schedule, TextKind::Schedule, devices);
     let Position::Event(event) = fault.position else {
         return match replay_bytes(alloc, hasher, plan.bytes, b"".as_slice()) {
-            Err(_) => diagnose_text(alloc, plan.name, plan.bytes, number, line),
-            Ok(_) => diagnose_text(alloc, schedule.name, schedule.bytes, number, line),
+            Err(_) => diagnose_text(alloc, plan_text, number, line),
+            Ok(_) => diagnose_text(alloc, events, number, line),
         };
     };
     let before = before_event(schedule.bytes, event);
     match replay_bytes(alloc, hasher, plan.bytes, before) {
-        Ok(report) => diagnose_event(
-            alloc,
-            schedule.name,
-            schedule.bytes,
-            event,
-            report.as_slice(),
-            number,
-        ),
-        Err(_) => diagnose_text(alloc, schedule.name, schedule.bytes, number, line),
+        Ok(report) => diagnose_event(alloc, events, event, report.as_slice(), number),
+        Err(_) => diagnose_text(alloc, events, number, line),
     }
 }

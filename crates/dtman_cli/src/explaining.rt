@@ -1,6 +1,7 @@
 //! What is said of errors: of one by its number, of those of a name, or of all in a line each.
 
 use crate::failure::Failure;
+use crate::near::no_such;
 use dtman_diagnosis::example_of;
 use dtman_engine::{Explanation, Fault, explain};
 use std::alloc::{AllocError, Global};
@@ -15,10 +16,31 @@ pub fn explained(alloc: Global, word: &str) -> Result<Vec<u8>, Failure<'_>> {
         _ => named(alloc, word),
     };
     match text {
-        Ok(text) if text.is_empty() => Err(Failure::NoSuchNumber(word)),
+        Ok(text) if text.is_empty() => Err(unknown(alloc, word)),
         Ok(text) => Ok(text.into_bytes()),
         Err(_) => Err(Failure::Refused(Fault::no_memory())),
     }
+}
+
+// No error has this number or name.
+fn unknown<'a>(alloc: Global, word: &'a str) -> Failure<'a> {
+    if word.parse::<u64>().is_ok() {
+        return no_such(alloc, "no error has the number", word, &[]);
+    }
+    match names(alloc) {
+        Ok(names) => no_such(alloc, "no error has the name", word, names.as_slice()),
+        Err(_) => Failure::Refused(Fault::no_memory()),
+    }
+}
+
+fn names(alloc: Global) -> Result<Vec<&'static [u8]>, AllocError> {
+    let mut names = Vec::new(alloc);
+    for number in 0..NUMBERS_END {
+        if let Some(explanation) = explain(number) {
+            names.push(explanation.name.as_bytes())?;
+        }
+    }
+    Ok(names)
 }
 
 // A line for each error.
@@ -33,13 +55,13 @@ fn listed(alloc: Global) -> Result<String, AllocError> {
     Ok(text)
 }
 
-// The errors with this number or name.
+// The errors with this number or name, in any case.
 fn named(alloc: Global, word: &str) -> Result<String, AllocError> {
     let mut text = String::new(alloc);
     let wanted = word.parse::<u8>().ok();
     for number in 0..NUMBERS_END {
         if let Some(explanation) = explain(number) {
-            if wanted == Some(number) || explanation.name == word {
+            if wanted == Some(number) || explanation.name.eq_ignore_ascii_case(word) {
                 if !text.is_empty() {
                     text.push_str("\n")?;
                 }

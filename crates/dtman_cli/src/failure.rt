@@ -19,16 +19,24 @@ pub enum Failure<'a> {
     LostAt(String),
     /// Nobody reads the output any more. That isn't told.
     Unread,
-    /// A number that no error has.
-    NoSuchNumber(&'a str),
-    /// A driver that the driver file hasn't.
-    NoSuchDriver(&'a str),
+    /// A word for which there is nothing.
+    NoSuch(Missing<'a>),
     /// A name that no links have.
     NoSuchLinks(&'a str),
     /// A word of the command line, and what is wrong with it.
     BadWord(&'a str, &'static str),
     /// Devices wait, or boards differ, and were printed. That isn't told again.
     Waiting,
+}
+
+/// A word of the command line for which there is nothing.
+#[derive(Debug, Drop)]
+pub struct Missing<'a> {
+    /// What isn't there, in words up to the word.
+    pub what: &'static str,
+    pub word: &'a str,
+    /// What is spelled like it.
+    pub near: Option<String>,
 }
 
 impl From<Fault> for Failure<'_> {
@@ -46,14 +54,7 @@ pub fn fail<E: Eprint>(errors: &E, failure: Failure<'_>) -> u8 {
         Failure::Lost(name) => (lost(errors, name.as_slice()), FILE),
         Failure::LostAt(lines) => (eprint!(errors; "{lines}"), FILE),
         Failure::Unread => (Ok(()), FILE),
-        Failure::NoSuchNumber(number) => (
-            eprintln!(errors; "error: no error has the number {number}"),
-            COMMAND_LINE,
-        ),
-        Failure::NoSuchDriver(name) => (
-            eprintln!(errors; "error: the driver file has no driver {name}"),
-            COMMAND_LINE,
-        ),
+        Failure::NoSuch(missing) => (no_such(errors, missing), COMMAND_LINE),
         Failure::NoSuchLinks(name) => (
             eprintln!(errors; "error: no links are those of {name}; `linux` has some"),
             COMMAND_LINE,
@@ -64,6 +65,14 @@ pub fn fail<E: Eprint>(errors: &E, failure: Failure<'_>) -> u8 {
     // Standard error is the last place to say anything: the status stands alone where it is closed.
     let _ = printed;
     status
+}
+
+fn no_such<E: Eprint>(errors: &E, missing: Missing<'_>) -> io::Result<()> {
+    let Missing { what, word, near } = missing;
+    match near {
+        Some(near) => eprintln!(errors; "error: {what} {word}; did you mean {near}?"),
+        None => eprintln!(errors; "error: {what} {word}"),
+    }
 }
 
 // The line of a file that a source takes in.

@@ -5,9 +5,12 @@ ghost use Rattle.clap.specs.declared.builder.command.Command.TheViews.{out-Comma
 ghost use Rattle.dtman_cli.specs.Grammar as spec;
 ghost use Rattle.dtman_cli.specs.Making.{Makes};
 
+use crate::arguments::{
+    asked_number, asked_text, beside, counted, flag, lettered, listed, number, optional, others,
+    repeated, required, several,
+};
 use bus_manager::MAX_WORKERS;
-use clap::builder::ValueParser;
-use clap::{Arg, ArgAction, Command};
+use clap::{Arg, Command};
 use std::alloc::{AllocError, Global};
 
 /// What `--help` says behind the commands.
@@ -21,7 +24,8 @@ file can't be read or written (80, 81) or is too long (82), or nobody reads the
 output any more, which isn't told.
 
 With -v or --verbose before or behind any command, or DTMAN_VERBOSE=1 in the
-environment, further lines of a refusal say where it is and of what.
+environment, further lines of a refusal say where it is and of what. With --json
+there, a refusal is an object of JSON in one line instead.
 
 Limits: a source has at most 16,777,216 bytes; a blob and its printed source
 have at most 268,435,456, and so does each text file of the bus; nodes are
@@ -36,8 +40,7 @@ Workers are 1 to 64: of `probe` 4 where none are named; `replay` binds what is
 left by workers only where they are named.
 
 `dtman dtc`, `fdtoverlay`, `fdtget`, `fdtput` and `fdtdump`, or links of these
-names to the program, take the words of dtc's package (`dtman dtc -h`). `dtman
-check` tells the mistakes that dtc warns of (`dtman check -h`).
+names to the program, take the words of dtc's package (`dtman dtc -h`).
 
 Formats: a driver file's line is `driver NAME COMPATIBLE..` or `fail PATH`. A
 plan's line is `PATH DRIVER ok|fail SUPPLIER..`, `PATH - - SUPPLIER..` (no
@@ -64,13 +67,14 @@ pub fn grammar<'a>(alloc: Global) -> Result<Command<'a>, AllocError>
     add_subcommand(app, explain(alloc))
 }
 
-/// Adds what is asked of the nodes and values of blobs.
+/// Adds what is asked of the mistakes, the nodes and the values of blobs.
 fn add_blobs<'a>(
     alloc: Global,
     app: Result<Command<'a>, AllocError>,
 ) -> Result<Command<'a>, AllocError>
     ensures { (before : App) → Makes app.entry before → Makes result (spec.with_blobs before) }
 {
+    let app = add_subcommand(app, check(alloc));
     let app = add_subcommand(app, diff(alloc));
     let app = add_subcommand(app, get(alloc));
     let app = add_subcommand(app, list(alloc));
@@ -126,6 +130,32 @@ fn add_links<'a>(
     let command = add_argument(command, asked_text(alloc, "links", "MODEL", links));
     let strict = beside(alloc, "strict", "links", strict)?;
     add_argument(command, strict)
+}
+
+/// Adds the options that say which checks are made.
+fn add_selection<'a>(
+    alloc: Global,
+    command: Result<Command<'a>, AllocError>,
+) -> Result<Command<'a>, AllocError>
+    ensures { (app : App) → Makes command.entry app → Makes result (spec.with_selection app) }
+{
+    let warning = "This check warns; no-CHECK, it doesn't";
+    let error = "This check is an error; no-CHECK, it is none";
+    let command = add_argument(command, listed(alloc, "warning", 'W', "CHECK", warning));
+    add_argument(command, listed(alloc, "error", 'E', "CHECK", error))
+}
+
+/// Adds the options that say how it is told what checks find.
+fn add_telling<'a>(
+    alloc: Global,
+    command: Result<Command<'a>, AllocError>,
+) -> Result<Command<'a>, AllocError>
+    ensures { (app : App) → Makes command.entry app → Makes result (spec.with_telling app) }
+{
+    let quiet = "Leaves out warnings; twice, errors too";
+    let json = "Prints an object of JSON a line";
+    let command = add_argument(command, counted(alloc, "quiet", 'q', quiet));
+    add_argument(command, flag(alloc, "json", json))
 }
 
 /// Adds what is drawn.
@@ -274,6 +304,23 @@ fn trace<'a>(alloc: Global) -> Result<Command<'a>, AllocError>
     add_argument(command, required(alloc, "PLAN", "The plan file"))
 }
 
+fn check<'a>(alloc: Global) -> Result<Command<'a>, AllocError>
+    ensures { IfOk result (λ c. (app_of c ≡ spec.check) × ((out-Command c).has_globals ≡ false)) }
+{
+    let about = "Tells the mistakes in sources and blobs that dtc warns of";
+    let dtc = "Takes a source in dtc's language, as always";
+    let folder = "Looks there, too, for files that the source takes in";
+    let known = "What --learn wrote: tells misspelled properties";
+    let learn = "Prints what nodes have on these boards, for --known";
+    let command = named(alloc, "check", about).arg(several(alloc, "IN", "The sources or blobs"));
+    let command = add_argument(command, flag(alloc, "dtc", dtc));
+    let command = add_argument(command, listed(alloc, "include", 'i', "DIR", folder));
+    let command = add_selection(alloc, command);
+    let command = add_telling(alloc, command);
+    let command = add_argument(command, asked_text(alloc, "known", "FILE", known));
+    add_argument(command, flag(alloc, "learn", learn))
+}
+
 fn diff<'a>(alloc: Global) -> Result<Command<'a>, AllocError>
     ensures { IfOk result (λ c. (app_of c ≡ spec.diff) × ((out-Command c).has_globals ≡ false)) }
 {
@@ -322,121 +369,4 @@ fn explain<'a>(alloc: Global) -> Result<Command<'a>, AllocError>
     let about = "Says what an error means and what to do; alone it lists all";
     let word = "The number behind `error`, or the name";
     named(alloc, "explain", about).arg(required(alloc, "NUMBER", word))
-}
-
-fn required<'a>(alloc: Global, name: &'a str, about: &'a str) -> Arg<'a>
-    ensures rule { rule_of result ≡ spec.required name.now }
-    ensures local { result.global ≡ false }
-{
-    Arg::new(alloc, name).required(true).help(about)
-}
-
-fn optional<'a>(alloc: Global, name: &'a str, about: &'a str) -> Arg<'a>
-    ensures rule { rule_of result ≡ spec.optional name.now }
-    ensures local { result.global ≡ false }
-{
-    Arg::new(alloc, name).help(about)
-}
-
-fn asked_text<'a>(alloc: Global, name: &'a str, value: &'a str, about: &'a str) -> Arg<'a>
-    ensures rule { rule_of result ≡ spec.asked_text name.now }
-    ensures local { result.global ≡ false }
-{
-    Arg::new(alloc, name)
-        .long(name)
-        .value_name(value)
-        .help(about)
-}
-
-/// An option with a text and a short name.
-fn lettered<'a>(
-    alloc: Global,
-    name: &'a str,
-    short: char,
-    value: &'a str,
-    about: &'a str,
-) -> Arg<'a>
-    ensures rule { rule_of result ≡ spec.lettered name.now short }
-    ensures local { result.global ≡ false }
-{
-    Arg::new(alloc, name)
-        .long(name)
-        .short(short)
-        .value_name(value)
-        .help(about)
-}
-
-/// Arguments of which any number may stand behind the others.
-fn others<'a>(alloc: Global, name: &'a str, about: &'a str) -> Arg<'a>
-    ensures rule { rule_of result ≡ spec.others name.now }
-    ensures local { result.global ≡ false }
-{
-    Arg::new(alloc, name).action(ArgAction::Append).help(about)
-}
-
-fn flag<'a>(alloc: Global, name: &'a str, about: &'a str) -> Arg<'a>
-    ensures rule { rule_of result ≡ spec.flag name.now }
-    ensures local { result.global ≡ false }
-{
-    Arg::new(alloc, name)
-        .long(name)
-        .action(ArgAction::SetTrue)
-        .help(about)
-}
-
-/// An option without a value, which wants another beside it.
-fn beside<'a>(
-    alloc: Global,
-    name: &'a str,
-    other: &'a str,
-    about: &'a str,
-) -> Result<Arg<'a>, AllocError>
-    ensures { IfOk result (λ a. (rule_of a ≡ spec.beside name.now) × (a.global ≡ false)) }
-{
-    Arg::new(alloc, name)
-        .long(name)
-        .action(ArgAction::SetTrue)
-        .help(about)
-        .requires_arg(other)
-}
-
-/// An option with a value, which wants another beside it.
-fn repeated<'a>(
-    alloc: Global,
-    name: &'a str,
-    short: char,
-    value: &'a str,
-    beside: &'a str,
-    about: &'a str,
-) -> Result<Arg<'a>, AllocError>
-    ensures { IfOk result (λ a. (rule_of a ≡ spec.repeated name.now short) × (a.global ≡ false)) }
-{
-    Arg::new(alloc, name)
-        .long(name)
-        .short(short)
-        .action(ArgAction::Append)
-        .value_name(value)
-        .help(about)
-        .requires_arg(beside)
-}
-
-fn asked_number<'a>(alloc: Global, name: &'a str, most: u64, about: &'a str) -> Arg<'a>
-    ensures rule { rule_of result ≡ spec.asked_number name.now most }
-    ensures local { result.global ≡ false }
-{
-    Arg::new(alloc, name)
-        .long(name)
-        .value_parser(ValueParser::unsigned(1, most))
-        .help(about)
-}
-
-fn number<'a>(alloc: Global, name: &'a str, most: u64, default: &'a str, about: &'a str) -> Arg<'a>
-    ensures rule { rule_of result ≡ spec.number name.now most default.now }
-    ensures local { result.global ≡ false }
-{
-    Arg::new(alloc, name)
-        .long(name)
-        .value_parser(ValueParser::unsigned(1, most))
-        .default_value(default)
-        .help(about)
 }

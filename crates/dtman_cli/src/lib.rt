@@ -1,9 +1,11 @@
 //! The program `dtman`: what the words of a command line say, and what it does over any files and any standard output.
 #![tactic(auto)]
 
+mod arguments;
 mod beside;
 mod blobs;
 mod boots;
+mod checks;
 mod compiling;
 mod detail;
 mod diagnosing;
@@ -13,6 +15,8 @@ mod files;
 mod folders;
 mod grammar;
 mod host;
+mod json;
+mod near;
 mod nodes;
 mod noted;
 mod outcome;
@@ -30,6 +34,6 @@ pub use outcome::{Outcome, compile_dtc};
 pub use reading::command;
 pub use running::{COMMAND_LINE, DONE, FILE, REFUSED, run, run_words};
 pub use shortfalls::shortfall_fault;
-pub use subcommand::{Board, Command, Language, Links, Picture};
+pub use subcommand::{Board, Command, Inspection, Language, Links, Picture};
 pub use surroundings::Surroundings;
 pub use user_places::in_user_file;

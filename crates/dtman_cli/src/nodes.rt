@@ -1,6 +1,6 @@
 //! Commands that read and write nodes and values of blobs: `diff`, `get`, `ls`, `set`.
 
-use crate::diagnosing::{Inputs, file_of};
+use crate::diagnosing::{Given, Inputs, file_of};
 use crate::failure::Failure;
 use crate::host::Host;
 use crate::performing::Answer;
@@ -51,6 +51,15 @@ fn fault_of(error: QueryError) -> Fault {
         QueryError::Blob(error) => Fault::from(error),
         QueryError::NoNode => unknown_path(),
         QueryError::NoProperty => unknown_path(),
+    }
+}
+
+// What a refusal of a blob is of that a node is asked for.
+fn inputs_of<'i>(blob: Given<'i>, asked: Asked<'i>) -> Inputs<'i> {
+    Inputs::Node {
+        blob,
+        path: asked.path.as_bytes(),
+        property: asked.property.as_bytes(),
     }
 }
 
@@ -121,9 +130,9 @@ pub fn valued<'a, S: Surroundings, E: Eprint, T>(
     };
     match answer {
         Ok(text) => Ok(Answer::Text(text)),
-        Err(AskError::Query(QueryError::Blob(error))) => {
-            let inputs = Inputs::Blob(file_of(blob_path, &blob));
-            Err(host.refusal(Fault::from(error), inputs))
+        Err(AskError::Query(error)) => {
+            let inputs = inputs_of(file_of(blob_path, &blob), asked);
+            Err(host.refusal(fault_of(error), inputs))
         }
         Err(error) => Err(unanswered(asked, error)),
     }
@@ -144,9 +153,9 @@ pub fn listed<'a, S: Surroundings, E: Eprint, T>(
     };
     match list_text(host.alloc, blob.as_slice(), path) {
         Ok(text) => Ok(Answer::Text(text)),
-        Err(AskError::Query(QueryError::Blob(error))) => {
-            let inputs = Inputs::Blob(file_of(blob_path, &blob));
-            Err(host.refusal(Fault::from(error), inputs))
+        Err(AskError::Query(error)) => {
+            let inputs = inputs_of(file_of(blob_path, &blob), asked);
+            Err(host.refusal(fault_of(error), inputs))
         }
         Err(error) => Err(unanswered(asked, error)),
     }
@@ -177,9 +186,9 @@ pub fn changed<'a, S: Surroundings, E: Eprint, T>(
             path: out.unwrap_or(asked.blob),
             bytes,
         }),
-        Err(AskError::Query(QueryError::Blob(error))) => {
-            let inputs = Inputs::Blob(file_of(asked.blob, &blob));
-            Err(host.refusal(Fault::from(error), inputs))
+        Err(AskError::Query(error)) => {
+            let inputs = inputs_of(file_of(asked.blob, &blob), asked);
+            Err(host.refusal(fault_of(error), inputs))
         }
         Err(error) => Err(unanswered(asked, error)),
     }

@@ -3,6 +3,7 @@ ghost use Rattle.std.specs.Prelude.{◌≡◌, false};
 
 use crate::blobs::{compiled, dumped, overlaid};
 use crate::boots::{drivers_made, replayed, traced};
+use crate::checks::checked;
 use crate::explaining::explained;
 use crate::failure::Failure;
 use crate::files::{print, write_at};
@@ -100,6 +101,7 @@ fn answer_of<'a, S: Surroundings, E: Eprint, T: Threads + Sync>(
             schedule,
             workers,
         } => replayed(host, plan, schedule, workers),
+        Command::Check { inspection } => checked(host, &inspection),
         Command::Diff { first, second } => compared(host, first, second),
         Command::Get {
             blob,

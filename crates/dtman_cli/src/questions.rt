@@ -1,12 +1,14 @@
 //! The questions that are asked of a board: `plan`, `probe`, `why`, `needs`.
 
-use crate::diagnosing::{Inputs, file_of};
+use crate::diagnosing::{Inputs, Planned, file_of};
 use crate::failure::Failure;
 use crate::host::Host;
+use crate::near::no_such;
 use crate::performing::Answer;
 use crate::subcommand::{Board, Links, Picture};
 use crate::surroundings::Surroundings;
 use bus_links::Strictness;
+use dtman_diagnosis::{TextKind, driver_names};
 use dtman_engine::Fault;
 use dtman_why::{Asked, BoardAnswer, Form, board_answer, without_driver};
 use std::alloc::Global;
@@ -99,7 +101,32 @@ fn answered<'a, S: Surroundings, E: Eprint, T: Threads + Sync>(
             host.warn(answer.warnings.as_slice());
             Ok(answer)
         }
-        Err(fault) => Err(host.refusal(fault, Inputs::Plan { blob, drivers })),
+        Err(fault) => {
+            let planned = Planned {
+                blob,
+                drivers,
+                kind: kind_of(links),
+                path: path_in(asked),
+            };
+            Err(host.refusal(fault, Inputs::Plan(planned)))
+        }
+    }
+}
+
+fn kind_of(links: Option<Strictness>) -> TextKind {
+    match links {
+        Some(_) => TextKind::LinkDrivers,
+        None => TextKind::Drivers,
+    }
+}
+
+// The path of the device that is asked for.
+fn path_in<'a>(asked: Asked<'a>) -> Option<&'a [u8]> {
+    match asked {
+        Asked::Plan | Asked::Report(_) => None,
+        Asked::Picture(picture) => picture.of,
+        Asked::Why(path) => path,
+        Asked::Needs(path) => Some(path),
     }
 }
 
@@ -136,7 +163,16 @@ fn less<'a>(
     };
     match without_driver(alloc, drivers.as_slice(), name.as_bytes()) {
         Ok(Some(left)) => Ok(left),
-        Ok(None) => Err(Failure::NoSuchDriver(name)),
+        Ok(None) => Err(no_driver(alloc, drivers.as_slice(), name)),
         Err(_) => Err(Failure::Refused(Fault::no_memory())),
+    }
+}
+
+// The driver file hasn't this driver.
+fn no_driver<'a>(alloc: Global, drivers: &[u8], name: &'a str) -> Failure<'a> {
+    let what = "the driver file has no driver";
+    match driver_names(alloc, drivers) {
+        Ok(names) => no_such(alloc, what, name, names.as_slice()),
+        Err(_) => Failure::Refused(Fault::no_memory()),
     }
 }

@@ -1,12 +1,12 @@
 //! The command line, read by `clap`.
 ghost use Rattle.std.specs.Prelude.{◌≡◌, IfOk, IfSome, codes, map};
-ghost use Rattle.clap.specs.Words.{app_of, first_of, found_of, rows_of};
+ghost use Rattle.clap.specs.Words.{app_of, count_of, first_of, found_of, rows_of};
 ghost use Rattle.clap.specs.Simple.{subcommand_rows_of};
 ghost use Rattle.dtman_cli.specs.Grammar.{dtman};
-ghost use Rattle.dtman_cli.specs.CommandLine.{AreAsked, AreWorkers, IsBoard, IsMet, IsLanguage, IsLinks, IsPicture, IsText, Meets, Says, is_on, texts_of};
+ghost use Rattle.dtman_cli.specs.CommandLine.{AreAsked, AreWorkers, IsBoard, IsInspection, IsMet, IsLanguage, IsLinks, IsPicture, IsText, Meets, Says, is_on, texts_of};
 
 use crate::grammar::grammar;
-use crate::subcommand::{Board, Command, Language, Links, Picture};
+use crate::subcommand::{Board, Command, Inspection, Language, Links, Picture};
 use bus_manager::MAX_WORKERS;
 use clap::error::ErrorKind;
 use clap::{ArgMatches, Error};
@@ -62,6 +62,7 @@ fn chosen<'a>(alloc: Global, matches: &ArgMatches<'a>) -> Result<Option<Command<
         "needs" => Ok(needs(given)),
         "drivers" => Ok(drivers(given)),
         "trace" => Ok(trace(given)),
+        "check" => check(alloc, given),
         "diff" => Ok(diff(given)),
         "get" => Ok(get(given)),
         "ls" => Ok(list(given)),
@@ -194,6 +195,33 @@ fn replay<'a>(given: &ArgMatches<'a>) -> Option<Command<'a>>
         plan: given.get_str("PLAN")?,
         schedule: given.get_str("SCHEDULE")?,
         workers: asked_workers(given)?.number,
+    })
+}
+
+fn check<'a>(alloc: Global, given: &ArgMatches<'a>) -> Result<Option<Command<'a>>, AllocError>
+    ensures { IfOk result (λ met. IfSome met (λ command. IsMet command (codes "check") (rows_of (found_of given.now)))) }
+{
+    let inspection = inspection(alloc, given)?;
+    Ok(Some(Command::Check { inspection }))
+}
+
+/// What is to be checked, and how it is told.
+fn inspection<'a>(alloc: Global, given: &ArgMatches<'a>) -> Result<Inspection<'a>, AllocError>
+    ensures { IfOk result (λ inspection. IsInspection inspection (rows_of (found_of given.now))) }
+{
+    let inputs = all_texts(alloc, given, "IN")?;
+    let folders = all_texts(alloc, given, "include")?;
+    let warnings = all_texts(alloc, given, "warning")?;
+    let errors = all_texts(alloc, given, "error")?;
+    Ok(Inspection {
+        inputs,
+        folders,
+        warnings,
+        errors,
+        known: text(given, "known"),
+        quiet: given.get_count("quiet"),
+        json: is_on(given, "json"),
+        learn: is_on(given, "learn"),
     })
 }
 

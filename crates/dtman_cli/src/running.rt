@@ -5,6 +5,7 @@ use crate::detail::{Detail, asked_for};
 use crate::failure::{Failure, fail};
 use crate::files::{INPUT, print};
 use crate::host::Host;
+use crate::json::fail_json;
 use crate::noted::Noted;
 use crate::performing::perform;
 use crate::reading::command;
@@ -95,8 +96,8 @@ fn arguments<R: Env + AllocGlobal>(rt: &R) -> io::Result<Vec<String>> {
 
 /// Runs the command that the words name, over any files and any standard output, and answers the exit status.
 ///
-/// Where that isn't 0, nothing was written to standard output, unless that is what failed, or `why --check` has listed devices. The words `-v` and `--verbose`
-/// ask for detail, before or behind the others.
+/// Where that isn't 0, nothing was written to standard output, unless that is what failed, or a command has listed what should not be
+/// there. The words `-v`, `--verbose` and `--json` ask for detail, before or behind the others.
 pub fn run_words<S: Surroundings, O: Channel, E: Eprint, T: Threads + Sync>(
     alloc: Global,
     surroundings: &mut S,
@@ -134,6 +135,9 @@ fn run_command<S: Surroundings, O: Channel, E: Eprint, T: Threads + Sync>(
             Ok(()) => DONE,
             Err(Failure::File(fault, path)) if host.detail == Detail::Verbose => {
                 fail_file(host.surroundings, errors, fault, path)
+            }
+            Err(failure) if host.detail == Detail::Json => {
+                fail_json(host.alloc, host.surroundings, errors, failure)
             }
             Err(failure) => fail(errors, failure),
         },

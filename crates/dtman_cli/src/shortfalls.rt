@@ -8,7 +8,7 @@ use crate::failure::{Failure, lost_line};
 use crate::user_places::{site_location, words_of};
 use dt_include::{Incomplete, Shortfall, Site};
 use dt_source::SourceErrorKind;
-use dtman_diagnosis::{Diagnosis, Location, Note, Subject, copied, text_of};
+use dtman_diagnosis::{Diagnosis, Location, Note, Subject, copied, json_of, text_of};
 use dtman_engine::{Fault, Position};
 use std::alloc::{AllocError, Global};
 
@@ -67,6 +67,7 @@ fn refused<'a>(
     }
     refusal(
         alloc,
+        detail,
         fault,
         diagnosis_of(alloc, file, fault.number, reason, site),
     )
@@ -80,21 +81,29 @@ fn lost<'a>(alloc: Global, detail: Detail, name: Vec<u8>, site: Option<Site>) ->
     if detail == Detail::Line {
         return Failure::Lost(name);
     }
-    match lost_lines(alloc, name.as_slice(), site) {
+    match lost_lines(alloc, detail, name.as_slice(), site) {
         Ok(lines) => Failure::LostAt(lines),
         Err(_) => Failure::Lost(name),
     }
 }
 
-fn lost_lines(alloc: Global, name: &[u8], site: Site) -> Result<String, AllocError> {
-    let first = lost_line(alloc, name)?;
+fn lost_lines(
+    alloc: Global,
+    detail: Detail,
+    name: &[u8],
+    site: Site,
+) -> Result<String, AllocError> {
     let diagnosis = Diagnosis {
         number: 80,
         location: site_location(site),
-        kind: Subject::Nothing,
+        kind: Subject::Inclusion,
         subject: copied(alloc, name)?,
         notes: Vec::new(alloc),
     };
+    if detail == Detail::Json {
+        return json_of(alloc, Fault::cannot_read().name, None, &diagnosis);
+    }
+    let first = lost_line(alloc, name)?;
     text_of(alloc, first.as_str(), &diagnosis)
 }
 

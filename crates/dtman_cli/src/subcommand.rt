@@ -36,6 +36,26 @@ pub struct Picture<'a> {
     pub of: Option<&'a str>,
 }
 
+/// What is checked, and how its mistakes are told.
+#[derive(Debug, Drop)]
+pub struct Inspection<'a> {
+    pub inputs: Vec<&'a str>,
+    /// Where files are looked for that sources take in, behind the folder of the file that names them.
+    pub folders: Vec<&'a str>,
+    /// The checks that are to warn, each by its name, or with `no-` before it those that aren't.
+    pub warnings: Vec<&'a str>,
+    /// The same of those that are errors.
+    pub errors: Vec<&'a str>,
+    /// What boards have that are known to be right.
+    pub known: Option<&'a str>,
+    /// How often it is asked to say less.
+    pub quiet: u8,
+    /// Objects of JSON in place of lines.
+    pub json: bool,
+    /// What the inputs teach, in place of their mistakes.
+    pub learn: bool,
+}
+
 /// A subcommand with its paths and options.
 #[derive(Debug, Drop)]
 pub enum Command<'a> {
@@ -89,6 +109,9 @@ pub enum Command<'a> {
     Trace {
         log: &'a str,
         plan: &'a str,
+    },
+    Check {
+        inspection: Inspection<'a>,
     },
     Diff {
         first: &'a str,

@@ -187,7 +187,7 @@ fn keyword<'a>(halt: Halt<'a>) -> Option<Mark<'a>> {
     let end = start.saturating_add(len);
     Some(Mark {
         span: Span { start, end },
-        kind: Subject::Dialect,
+        kind: Subject::DtcLanguage,
         subject: halt.origin.text.get(start..end).unwrap_or(&[]),
     })
 }

@@ -1,6 +1,7 @@
 //! Refusals of blobs.
 
 use crate::diagnosis::{Diagnosis, Location, Note, Subject, copied};
+use crate::natures::nature_of_no_blob;
 use dt_blob_trace::{Fault, trace_blob};
 use std::alloc::{AllocError, Global};
 
@@ -46,7 +47,7 @@ pub fn diagnose_blob(
             of_file_with(alloc, file, number, "the file has more")
         }
         None if number == 38 => of_file_with(alloc, file, number, "its text would have more"),
-        Some(fault) if fault.number == number => of_word(alloc, file, &fault),
+        Some(fault) if fault.number == number => of_word(alloc, file, blob, &fault),
         _ => of_file(alloc, file, number),
     }
 }
@@ -57,7 +58,12 @@ pub(crate) fn is_blob(alloc: Global, bytes: &[u8]) -> Result<bool, AllocError> {
     Ok(found.is_none())
 }
 
-fn of_word(alloc: Global, file: &[u8], fault: &Fault) -> Result<Diagnosis, AllocError> {
+fn of_word(
+    alloc: Global,
+    file: &[u8],
+    blob: &[u8],
+    fault: &Fault,
+) -> Result<Diagnosis, AllocError> {
     Ok(Diagnosis {
         number: fault.number,
         location: Location::Offset {
@@ -66,14 +72,25 @@ fn of_word(alloc: Global, file: &[u8], fault: &Fault) -> Result<Diagnosis, Alloc
         },
         kind: Subject::Nothing,
         subject: Vec::new(alloc),
-        notes: notes_of(alloc, fault)?,
+        notes: notes_of(alloc, blob, fault)?,
     })
 }
 
-fn notes_of(alloc: Global, fault: &Fault) -> Result<Vec<Note>, AllocError> {
+fn notes_of(alloc: Global, blob: &[u8], fault: &Fault) -> Result<Vec<Note>, AllocError> {
     let mut notes = Vec::new(alloc);
     add_notes(alloc, &mut notes, fault)?;
+    add_nature(&mut notes, blob, fault)?;
     Ok(notes)
+}
+
+// What a file is that doesn't begin as a blob.
+fn add_nature(notes: &mut Vec<Note>, blob: &[u8], fault: &Fault) -> Result<(), AllocError> {
+    if fault.number == 30 || fault.number == 31 {
+        if let Some(words) = nature_of_no_blob(blob) {
+            notes.push(Note::Words(words))?;
+        }
+    }
+    Ok(())
 }
 
 fn add_notes(alloc: Global, notes: &mut Vec<Note>, fault: &Fault) -> Result<(), AllocError> {

@@ -34,8 +34,11 @@ pub enum Note {
         path: Vec<u8>,
         property: Option<Vec<u8>>,
     },
-    /// Names that are spelled alike, the nearest first.
-    Alike(Vec<Vec<u8>>),
+    /// Names that are spelled alike, the nearest first, and what they are.
+    Alike {
+        what: &'static str,
+        names: Vec<Vec<u8>>,
+    },
     /// Where that stands which it meets.
     Earlier(Location),
     /// Where it is deleted.
@@ -93,6 +96,8 @@ pub enum Note {
     Left(usize),
     /// What is said in words.
     Words(&'static str),
+    /// What somebody else says.
+    Said(Vec<u8>),
 }
 
 /// What is meant.
@@ -115,7 +120,7 @@ pub enum Subject {
     /// A word that is no value.
     Word,
     /// What dtc's language has, and the profile hasn't.
-    Dialect,
+    DtcLanguage,
     /// A literal with a leading 0, and digits that no octal number has.
     Octal,
     /// The deletion of what the same body defines.
@@ -124,6 +129,12 @@ pub enum Subject {
     Deleted,
     /// Words that take in a file.
     Inclusion,
+    /// A node that isn't there.
+    Node,
+    /// A property that isn't there.
+    Property,
+    /// A byte or a character that can't stand in a text file of the bus.
+    Character,
     End,
 }
 

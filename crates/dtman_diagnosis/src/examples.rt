@@ -74,7 +74,7 @@ fn of_meaning(number: u8) -> Option<&'static str> {
 fn of_blob(number: u8) -> Option<&'static str> {
     match number {
         30 => Some(
-            "error 30 Truncated\nIN:0x0: the blob is cut\n = wanted is a header of 40 bytes\n",
+            "error 30 Truncated\nIN:0x0: the blob is cut\n = wanted is a header of 40 bytes\n = the file is empty\n",
         ),
         31 => Some(
             "error 31 BadMagic\nIN:0x0: this is no blob\n = wanted is the magic number 0xd00dfeed, and 0x00000000 stands there\n",
@@ -113,7 +113,7 @@ fn of_overlay(number: u8) -> Option<&'static str> {
             "error 41 NoTarget\nOVERLAY: the base has no node at `/b`\n = in /f, property target-path\n",
         ),
         42 => Some(
-            "error 42 UnknownSymbol\nOVERLAY: the base has no symbol `b` that leads to a node with a phandle\n = in /fragment@0, property target\n = its entry in __fixups__ is `/fragment@0:target:0`\n = labels spelled alike: a\n",
+            "error 42 UnknownSymbol\nOVERLAY: the base has no symbol `b` that leads to a node with a phandle\n = in /fragment@0, property target\n = its entry in __fixups__ is `/fragment@0:target:0`\n",
         ),
         43 => Some(
             "error 43 BadFixup\nOVERLAY: an entry of the label `b` can't be used\n = in /__fixups__, property b\n = its entry in __fixups__ is `/f:target`\n = an entry is `PATH:PROPERTY:OFFSET`\n",
@@ -134,16 +134,16 @@ fn of_overlay(number: u8) -> Option<&'static str> {
 fn of_bus(number: u8) -> Option<&'static str> {
     match number {
         50 => Some(
-            "error 50 BadLine line 1\nPLAN:1:1: the line has no lawful form\n  |\n1 | /a\n  | ^^\n",
+            "error 50 BadLine line 1\nPLAN:1:3: the line ends, and more must follow\n  |\n1 | /a\n  |   ^\n  = the form is `PATH DRIVER ok|fail SUPPLIER..`, or `- -` or `! -` behind PATH\n",
         ),
         51 => Some(
-            "error 51 DuplicateDriver line 2\nDRIVERS:2:1: a line before names this driver\n  |\n2 | driver a c\n  | ^^^^^^^^^^\n",
+            "error 51 DuplicateDriver line 2\nDRIVERS:2:8: a line before names this driver\n  |\n2 | driver a c\n  |        ^\n  = the other one stands at DRIVERS:1:8\n",
         ),
         52 => Some(
-            "error 52 DuplicateDevice line 2\nPLAN:2:1: a line before has this path\n  |\n2 | /a - -\n  | ^^^^^^\n",
+            "error 52 DuplicateDevice line 2\nPLAN:2:1: a line before has this path\n  |\n2 | /a - -\n  | ^^\n  = the other one stands at PLAN:1:1\n",
         ),
         53 => Some(
-            "error 53 UnknownPath line 1\nPLAN:1:1: the line names a path that no device has\n  |\n1 | /a - - /b\n  | ^^^^^^^^^\n",
+            "error 53 UnknownPath line 1\nPLAN:1:8: no device has the path `/b`\n  |\n1 | /a - - /b\n  |        ^^\n",
         ),
         54 => Some(
             "error 54 DanglingPhandle\nBLOB: no node has the phandle of an entry\n = in /a, property clocks\n = entry 1 is phandle 0x7\n",
@@ -173,7 +173,7 @@ fn of_bus(number: u8) -> Option<&'static str> {
             "error 66 NotInFlight event 1\nSCHEDULE:1:1: the device isn't in flight\n  |\n1 | abandon /a\n  | ^^^^^^^^^^\n  = before it: /a due\n",
         ),
         67 => Some(
-            "error 67 KnownDriver event 1\nSCHEDULE:1:1: a driver has this name\n  |\n1 | driver x b\n  | ^^^^^^^^^^\n",
+            "error 67 KnownDriver event 1\nSCHEDULE:1:1: a driver has this name\n  |\n1 | driver x b\n  | ^^^^^^^^^^\n  = the other one stands at PLAN:1:4\n",
         ),
         _ => None,
     }

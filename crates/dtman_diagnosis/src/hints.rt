@@ -2,6 +2,7 @@
 
 use crate::advice::{Halt, word_len};
 use crate::diagnosis::Subject;
+use crate::natures::nature_of_no_text;
 use dt_lexeme::{Kind, Language};
 use dt_place::named;
 use std::alloc::{AllocError, Global};
@@ -38,7 +39,12 @@ fn is_label(halt: Halt<'_>, word: &[u8]) -> bool {
 
 /// What to do at this place, where that is known.
 pub(crate) fn hint(halt: Halt<'_>) -> Option<&'static str> {
-    if let Some(words) = of_dialect(halt) {
+    if halt.start == 0 {
+        if let Some(words) = nature_of_no_text(halt.origin.text) {
+            return Some(words);
+        }
+    }
+    if let Some(words) = of_dtc_language(halt) {
         return Some(words);
     }
     if let Some(words) = of_preprocessor(halt) {
@@ -66,7 +72,7 @@ fn of_value(halt: Halt<'_>) -> Option<&'static str> {
 }
 
 // Character literals, which the profile hasn't.
-fn of_dialect(halt: Halt<'_>) -> Option<&'static str> {
+fn of_dtc_language(halt: Halt<'_>) -> Option<&'static str> {
     if halt.origin.language == Language::Profile && is_character(halt) {
         Some("character literals are of dtc's language, which `--dtc` reads")
     } else {

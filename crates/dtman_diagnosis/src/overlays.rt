@@ -1,11 +1,11 @@
 //! Refusals of overlays.
 
-use crate::alike::nearest;
+use crate::alike::{add_labels, nearest};
 use crate::blobs::{diagnose_blob, is_blob, of_file, of_location};
 use crate::diagnosis::{Diagnosis, Location, Note, Subject, copied};
 use dt_blob::read;
 use dt_overlay_trace::{Culprit, Fault, Reason, Target, Trace, trace_overlay};
-use dt_tree::Tree;
+use dt_tree::{Node, Path, Tree};
 use std::alloc::{AllocError, Global};
 
 /// What `overlay` refuses by this number of the blobs in the files of these names.
@@ -59,8 +59,51 @@ fn of_trees(
     number: u8,
 ) -> Result<Diagnosis, AllocError> {
     match trace_overlay(alloc, base, overlay)? {
-        Some(trace) if trace.culprit.fault as u8 == number => traced(alloc, file, &trace),
+        Some(trace) if trace.culprit.fault as u8 == number => {
+            let mut diagnosis = traced(alloc, file, &trace)?;
+            if is_applied(alloc, base, overlay, &trace) {
+                let words =
+                    "the base's node has properties and children of all these names: is it applied already?";
+                diagnosis.notes.push(Note::Words(words))?;
+            }
+            Ok(diagnosis)
+        }
         _ => of_file(alloc, file, number),
+    }
+}
+
+// Whether a node of the overlay, which has more than a phandle, would stand over one of the base that has properties and children of
+// all its names.
+fn is_applied(alloc: Global, base: &Tree, overlay: &Tree, trace: &Trace<'_>) -> bool {
+    let (Some(there), Some(over)) = (
+        node_in(alloc, base, &trace.base_path),
+        node_at(alloc, overlay, trace.path.as_slice()),
+    ) else {
+        return false;
+    };
+    trace.culprit.reason == Reason::SecondPhandle
+        && (over.properties().len() > 1 || !over.children().is_empty())
+        && over
+            .properties()
+            .iter()
+            .all(|property| there.value(property.name.as_bytes()).is_some())
+        && over
+            .children()
+            .iter()
+            .all(|child| there.child(child.name_bytes()).is_some())
+}
+
+fn node_in<'t>(alloc: Global, tree: &'t Tree, path: &Option<Vec<u8>>) -> Option<&'t Node> {
+    match path {
+        Some(path) => node_at(alloc, tree, path.as_slice()),
+        None => None,
+    }
+}
+
+fn node_at<'t>(alloc: Global, tree: &'t Tree, path: &[u8]) -> Option<&'t Node> {
+    match Path::parse(alloc, path) {
+        Ok(path) => tree.find(&path),
+        Err(_) => None,
     }
 }
 
@@ -189,11 +232,11 @@ fn add_nodes(alloc: Global, notes: &mut Vec<Note>, trace: &Trace<'_>) -> Result<
 
 fn add_alike(alloc: Global, notes: &mut Vec<Note>, trace: &Trace<'_>) -> Result<(), AllocError> {
     let label = trace.culprit.subject.unwrap_or(&[]);
-    if trace.culprit.reason == Reason::NoSymbol && !trace.symbols.is_empty() {
-        let alike = nearest(alloc, label, trace.symbols.as_slice())?;
-        notes.push(Note::Alike(alike))?;
+    if trace.culprit.reason != Reason::NoSymbol {
+        return Ok(());
     }
-    Ok(())
+    let names = nearest(alloc, label, trace.symbols.as_slice())?;
+    add_labels(notes, names)
 }
 
 // What is wrong, where the other notes don't say it.

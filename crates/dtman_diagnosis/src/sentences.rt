@@ -36,7 +36,7 @@ fn syntax(kind: Subject) -> Sentence {
             " stands behind a child; properties stand before children",
         ),
         Subject::Missing => of("expected ", ""),
-        Subject::Dialect => of("", " is of dtc's language, which `--dtc` reads"),
+        Subject::DtcLanguage => of("", " is of dtc's language, which `--dtc` reads"),
         Subject::Word => of(
             "",
             " is no value: a value is a string \"..\", <..>, [..] or a reference",
@@ -104,6 +104,7 @@ fn doubled(kind: Subject) -> Sentence {
 
 fn of_source(number: u8, kind: Subject) -> Sentence {
     match number {
+        0 => plain("the system refused memory"),
         10 => syntax(kind),
         11 => of("the element ", " doesn't fit its width"),
         12 => of("", " divides by zero"),
@@ -161,12 +162,26 @@ fn of_overlay(number: u8, kind: Subject) -> Sentence {
     }
 }
 
-fn of_bus(number: u8) -> Sentence {
+fn of_line(kind: Subject) -> Sentence {
+    match kind {
+        Subject::Word => of("", " can't stand here"),
+        Subject::End => plain("the line ends, and more must follow"),
+        Subject::Character => plain("this can't stand in a line"),
+        _ => plain("the line has no lawful form"),
+    }
+}
+
+fn of_bus(number: u8, kind: Subject) -> Sentence {
     match number {
-        50 => plain("the line has no lawful form"),
+        50 => of_line(kind),
         51 => plain("a line before names this driver"),
         52 => plain("a line before has this path"),
-        53 => plain("the line names a path that no device has"),
+        53 => match kind {
+            Subject::Path => of("no device has the path ", ""),
+            Subject::Node => of("no node has the path ", ""),
+            Subject::Property => of("the node has no property ", ""),
+            _ => plain("the line names a path that no device has"),
+        },
         54 => plain("no node has the phandle of an entry"),
         55 => plain("a property doesn't list its suppliers as they want it"),
         56 => plain("there are more devices than a plan may have"),
@@ -182,14 +197,25 @@ fn of_bus(number: u8) -> Sentence {
     }
 }
 
+fn of_file(number: u8, kind: Subject) -> Sentence {
+    match number {
+        80 => match kind {
+            Subject::Inclusion => of("no file can be read that is named ", ""),
+            _ => plain("the file can't be read"),
+        },
+        81 => plain("the file can't be written"),
+        _ => plain("the file is too long: at most 268,435,456 bytes are read"),
+    }
+}
+
 /// Writes the sentence of a diagnosis.
 pub(crate) fn push_sentence(out: &mut String, diagnosis: &Diagnosis) -> Result<(), AllocError> {
     let sentence = match diagnosis.number {
         0..=29 => of_source(diagnosis.number, diagnosis.kind),
         30..=39 => of_blob(diagnosis.number),
         40..=49 => of_overlay(diagnosis.number, diagnosis.kind),
-        80 => of("no file can be read that is named ", ""),
-        _ => of_bus(diagnosis.number),
+        80..=89 => of_file(diagnosis.number, diagnosis.kind),
+        _ => of_bus(diagnosis.number, diagnosis.kind),
     };
     out.push_str(sentence.before)?;
     if let Some(behind) = sentence.behind {

@@ -1,7 +1,7 @@
 //! Refusals of sources.
 
 use crate::advice::{Halt, advised, begins_statement};
-use crate::alike::nearest;
+use crate::alike::{add_labels, nearest};
 use crate::blobs::of_file_with;
 use crate::brackets::{innermost, misfit_in, unclosed};
 use crate::diagnosis::{Diagnosis, Location, Note, Subject, copied};
@@ -349,9 +349,9 @@ impl<'a> Case<'a> {
             };
             diagnosis.notes.push(Note::Words(words))?;
         }
-        if self.number == 20 && !trace.labels.is_empty() {
-            let alike = nearest(alloc, name, trace.labels.as_slice())?;
-            diagnosis.notes.push(Note::Alike(alike))?;
+        if self.number == 20 {
+            let names = nearest(alloc, name, trace.labels.as_slice())?;
+            add_labels(&mut diagnosis.notes, names)?;
         }
         Ok(diagnosis)
     }

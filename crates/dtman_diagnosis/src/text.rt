@@ -100,10 +100,11 @@ fn push_excerpt(alloc: Global, out: &mut String, location: &Location) -> Result<
     Ok(width)
 }
 
-fn push_note(out: &mut String, note: &Note) -> Result<(), AllocError> {
+/// Writes a note without an end.
+pub(crate) fn push_note(out: &mut String, note: &Note) -> Result<(), AllocError> {
     match note {
         Note::In { path, property } => push_around(out, path, property),
-        Note::Alike(names) => push_alike(out, names),
+        Note::Alike { what, names } => push_alike(out, *what, names),
         Note::Earlier(location) => push_there(out, "the other one stands at ", location),
         Note::Deleted(location) => push_there(out, "it is deleted at ", location),
         Note::Unclosed(location) => push_there(
@@ -130,6 +131,7 @@ fn push_note(out: &mut String, note: &Note) -> Result<(), AllocError> {
             push_shown(out, path.as_slice())
         }
         Note::Words(words) => out.push_str(*words),
+        Note::Said(words) => push_shown(out, words.as_slice()),
         _ => push_number(out, note),
     }
 }
@@ -178,8 +180,8 @@ fn push_around(
     }
 }
 
-fn push_alike(out: &mut String, names: &Vec<Vec<u8>>) -> Result<(), AllocError> {
-    out.push_str("labels spelled alike: ")?;
+fn push_alike(out: &mut String, what: &str, names: &Vec<Vec<u8>>) -> Result<(), AllocError> {
+    out.push_str(what)?;
     for (i, name) in names.iter().enumerate() {
         if i > 0 {
             out.push_str(", ")?;

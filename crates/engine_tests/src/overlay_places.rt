@@ -115,6 +115,25 @@ const FRAGMENTS: &[Row] = &[
     },
 ];
 
+/// Overlays that the base has in it.
+const TWICE: &[Row] = &[
+    Row {
+        base: "/dts-v1/; / { i2c: i2c { baro: baro@76 { compatible = \"b\"; }; }; };",
+        symbols: true,
+        overlay: "/dts-v1/; /plugin/; &i2c { baro: baro@76 { compatible = \"b\"; }; user { uses = <&baro>; }; };",
+        number: 45,
+        lines: "error 45 PhandleClash\no.dtbo: a node would get a second phandle, or two nodes have one\n = in /fragment@0/__overlay__/baro@76, property phandle\n = its fragment targets the label i2c\n = the node that has one is /i2c/baro@76\n = the base's node has properties and children of all these names: is it applied already?\n",
+    },
+    // another node of that name
+    Row {
+        base: "/dts-v1/; / { i2c: i2c { baro: baro@76 { compatible = \"b\"; }; }; };",
+        symbols: true,
+        overlay: "/dts-v1/; /plugin/; &i2c { baro: baro@76 { compatible = \"b\"; reg = <1>; }; user { uses = <&baro>; }; };",
+        number: 45,
+        lines: "error 45 PhandleClash\no.dtbo: a node would get a second phandle, or two nodes have one\n = in /fragment@0/__overlay__/baro@76, property phandle\n = its fragment targets the label i2c\n = the node that has one is /i2c/baro@76\n",
+    },
+];
+
 /// Symbols of a base.
 const SYMBOLS: &[Row] = &[
     Row {
@@ -122,7 +141,7 @@ const SYMBOLS: &[Row] = &[
         symbols: true,
         overlay: "/dts-v1/; /plugin/; &g1 { }; &spi0 { d { reset-gpios = <&g7 3 0>, <&g7 4 0>; }; };",
         number: 42,
-        lines: "error 42 UnknownSymbol\no.dtbo: the base has no symbol `g7` that leads to a node with a phandle\n = in /fragment@1/__overlay__/d, property reset-gpios\n = its fragment targets the label spi0\n = its entry in __fixups__ is `/fragment@1/__overlay__/d:reset-gpios:0`\n = labels spelled alike: g1, g2, spi0\n",
+        lines: "error 42 UnknownSymbol\no.dtbo: the base has no symbol `g7` that leads to a node with a phandle\n = in /fragment@1/__overlay__/d, property reset-gpios\n = its fragment targets the label spi0\n = its entry in __fixups__ is `/fragment@1/__overlay__/d:reset-gpios:0`\n = labels spelled alike: g1, g2\n",
     },
     Row {
         base: BASE,

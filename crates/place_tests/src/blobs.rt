@@ -73,7 +73,7 @@ const HEADERS: &[Row] = &[
         0xedfe_0dd0,
         90,
         31,
-        "error 31 BadMagic\nb.dtb:0x0: this is no blob\n = wanted is the magic number 0xd00dfeed, and 0xedfe0dd0 stands there\n",
+        "error 31 BadMagic\nb.dtb:0x0: this is no blob\n = wanted is the magic number 0xd00dfeed, and 0xedfe0dd0 stands there\n = the bytes of its words stand the other way round\n",
     ),
     (
         0x14,

@@ -81,7 +81,7 @@ const MEANING: &[Row] = &[
         symbols: false,
         number: 20,
         refused: Some("&m"),
-        lines: "error 20 UnknownLabel\nboard.dts:3:18: no node has the label `m`\n  |\n3 | /omit-if-no-ref/ &m;\n  |                  ^^\n  = in /\n  = labels spelled alike: l\n",
+        lines: "error 20 UnknownLabel\nboard.dts:3:18: no node has the label `m`\n  |\n3 | /omit-if-no-ref/ &m;\n  |                  ^^\n  = in /\n",
     },
     Row {
         source: "/dts-v1/;\n/ { l: a { }; };\n/ { /delete-node/ a; a { }; };\n&l { };\n",

@@ -3,7 +3,9 @@
 use super::shown::shows;
 use crate::refused::refused_by;
 use dt_lexeme::Language;
-use dtman_diagnosis::{diagnose_event, diagnose_source, diagnose_text, example_of};
+use dtman_diagnosis::{
+    BusText, Devices, TextKind, diagnose_event, diagnose_source, diagnose_text, example_of,
+};
 use std::alloc::Global;
 use std::process::Abort;
 
@@ -76,7 +78,18 @@ const LINES: &[(u8, &str, &str, Option<usize>)] = &[
 
 fn line_shows<R: Abort + AllocGlobal>(rt: &R, row: &(u8, &str, &str, Option<usize>)) {
     let (number, text, file, line) = row;
-    let diagnosis = diagnose_text(rt.alloc(), file.as_bytes(), text.as_bytes(), *number, *line);
+    let (file, bytes) = (file.as_bytes(), text.as_bytes());
+    let kind = match number {
+        51 => TextKind::Drivers,
+        _ => TextKind::Plan,
+    };
+    let text = BusText {
+        kind,
+        file,
+        bytes,
+        devices: Devices::Plan { file, bytes },
+    };
+    let diagnosis = diagnose_text(rt.alloc(), text, *number, *line);
     let lines = example_of(*number).expect(rt, "an example");
     shows(rt, rt.alloc(), diagnosis, lines);
 }
@@ -125,14 +138,17 @@ const EVENTS: &[(u8, &str, usize, &str)] = &[
 
 fn event_shows<R: Abort + AllocGlobal>(rt: &R, row: &(u8, &str, usize, &str)) {
     let (number, schedule, event, report) = row;
-    let diagnosis = diagnose_event(
-        rt.alloc(),
-        b"SCHEDULE".as_slice(),
-        schedule.as_bytes(),
-        *event,
-        report.as_bytes(),
-        *number,
-    );
+    let schedule = BusText {
+        kind: TextKind::Schedule,
+        file: b"SCHEDULE".as_slice(),
+        bytes: schedule.as_bytes(),
+        devices: Devices::Plan {
+            file: b"PLAN".as_slice(),
+            bytes: b"/a x ok\n".as_slice(),
+        },
+    };
+    let report = report.as_bytes();
+    let diagnosis = diagnose_event(rt.alloc(), schedule, *event, report, *number);
     let lines = example_of(*number).expect(rt, "an example");
     shows(rt, rt.alloc(), diagnosis, lines);
 }

@@ -2,13 +2,21 @@
 #![tactic(auto)]
 
 #[cfg(test)]
+mod alike;
+#[cfg(test)]
 mod blobs;
+#[cfg(test)]
+mod bus_texts;
 #[cfg(test)]
 mod dtc;
 #[cfg(test)]
 mod examples;
 #[cfg(test)]
+mod json;
+#[cfg(test)]
 mod mistakes;
+#[cfg(test)]
+mod natures;
 #[cfg(test)]
 mod places;
 #[cfg(test)]

@@ -112,6 +112,13 @@ const ROWS: &[Row] = &[
         source: "/dts-v1/;\n/ { g = <&gpio 3 GPIO_ACTIVE_LOW>; };\n",
         lines: "refused\nboard.dts:2:18: `GPIO_ACTIVE_LOW` can't stand here\n  |\n2 | / { g = <&gpio 3 GPIO_ACTIVE_LOW>; };\n  |                  ^^^^^^^^^^^^^^^\n  = in /, property g\n  = is it a macro, and the preprocessor run?\n",
     },
+    // a file that is no text
+    Row {
+        language: Language::Profile,
+        number: 10,
+        source: "\u{7f}ELF\u{2}",
+        lines: "refused\nboard.dts:1:1: no lexeme begins here\n  |\n1 | \\x7fELF\\x02\n  | ^^^^\n  = in /\n  = it is an ELF file\n",
+    },
     // cells
     Row {
         language: Language::Profile,

@@ -1,10 +1,10 @@
 //! Lines and events of schedules that are refused.
 
 use super::shown::shows;
-use dtman_diagnosis::{before_event, diagnose_event, diagnose_text};
+use dtman_diagnosis::{BusText, Devices, TextKind, before_event, diagnose_event};
 use std::process::Abort;
 
-/// A schedule, its event that is refused (or none where a line is), the report of what is before it, and the lines of the refusal.
+/// A schedule, its event that is refused, the report of what is before it, and the lines of the refusal.
 struct Replayed {
     schedule: &'static str,
     number: u8,
@@ -14,13 +14,6 @@ struct Replayed {
 }
 
 const REPLAYS: &[Replayed] = &[
-    Replayed {
-        schedule: "begin /uart\nbeginn /clk\r\n",
-        number: 50,
-        event: 0,
-        report: "",
-        lines: "error 50 BadLine line 2\nboot.schedule:2:1: the line has no lawful form\n  |\n2 | beginn /clk\n  | ^^^^^^^^^^^\n",
-    },
     Replayed {
         schedule: "# twice\n\nbegin /uart\n\nbegin /uart\n",
         number: 60,
@@ -56,28 +49,38 @@ const REPLAYS: &[Replayed] = &[
         report: "/clk due\n/uart due\n/led unmatched\nbusy\n",
         lines: "error 66 NotInFlight event 1\nboot.schedule:1:1: the device isn't in flight\n  |\n1 | abandon /clk\n  | ^^^^^^^^^^^^\n  = before it: /clk due\n",
     },
+    // the driver of a device of the plan
     Replayed {
         schedule: "driver fixed x\n",
         number: 67,
         event: 1,
         report: "/clk due\n/uart due\n/led unmatched\nbusy\n",
-        lines: "error 67 KnownDriver event 1\nboot.schedule:1:1: a driver has this name\n  |\n1 | driver fixed x\n  | ^^^^^^^^^^^^^^\n",
+        lines: "error 67 KnownDriver event 1\nboot.schedule:1:1: a driver has this name\n  |\n1 | driver fixed x\n  | ^^^^^^^^^^^^^^\n  = the other one stands at board.plan:2:6\n",
+    },
+    // one that came late before
+    Replayed {
+        schedule: "driver late x\ndriver  late y\n",
+        number: 67,
+        event: 2,
+        report: "/clk due\n/uart due\n/led unmatched\nbusy\n",
+        lines: "error 67 KnownDriver event 2\nboot.schedule:2:1: a driver has this name\n  |\n2 | driver  late y\n  | ^^^^^^^^^^^^^^\n  = the other one stands at boot.schedule:1:8\n",
     },
 ];
 
+const PLAN: &[u8] = b"# a plan\n/clk fixed ok\n/uart ns ok /clk\n/led - -\n";
+
 fn replay_shows<R: Abort + AllocGlobal>(rt: &R, row: &Replayed) {
-    let (file, schedule) = (b"boot.schedule".as_slice(), row.schedule.as_bytes());
-    let diagnosis = match row.event {
-        0 => diagnose_text(rt.alloc(), file, schedule, row.number, Some(2)),
-        event => diagnose_event(
-            rt.alloc(),
-            file,
-            schedule,
-            event,
-            row.report.as_bytes(),
-            row.number,
-        ),
+    let schedule = BusText {
+        kind: TextKind::Schedule,
+        file: b"boot.schedule".as_slice(),
+        bytes: row.schedule.as_bytes(),
+        devices: Devices::Plan {
+            file: b"board.plan".as_slice(),
+            bytes: PLAN,
+        },
     };
+    let report = row.report.as_bytes();
+    let diagnosis = diagnose_event(rt.alloc(), schedule, row.event, report, row.number);
     shows(rt, rt.alloc(), diagnosis, row.lines);
 }
 

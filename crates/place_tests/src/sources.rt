@@ -88,7 +88,7 @@ const MEANING: &[Row] = &[
         source: "# 0 \"board.dts\"\n# 1 \"board.dts\"\n/dts-v1/;\n# 1 \"soc.dtsi\" 1\n/ {\n\tsoc {\n\t\tgpio1: gpio@1 { };\n\t\tgpio70: gpio@70 { };\n\t\tspi0: spi@70000 { };\n\t};\n};\n# 3 \"board.dts\" 2\n&spi0 {\n\tdisplay@1 {\n\t\treset-gpios = <&gpio7 3 0>;\n\t};\n};\n",
         symbols: false,
         number: 20,
-        lines: "error 20 UnknownLabel\nboard.dts:5:18: no node has the label `gpio7`\n  |\n5 | \t\treset-gpios = <&gpio7 3 0>;\n  | \t\t               ^^^^^^\n  = in /soc/spi@70000/display@1, property reset-gpios\n  = labels spelled alike: gpio1, gpio70, spi0\n",
+        lines: "error 20 UnknownLabel\nboard.dts:5:18: no node has the label `gpio7`\n  |\n5 | \t\treset-gpios = <&gpio7 3 0>;\n  | \t\t               ^^^^^^\n  = in /soc/spi@70000/display@1, property reset-gpios\n  = labels spelled alike: gpio1, gpio70\n",
     },
     Row {
         source: "/dts-v1/;\n/ { a: x { }; };\n/delete-node/ &a;\n&a { };\n",

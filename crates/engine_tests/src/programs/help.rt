@@ -36,6 +36,7 @@ fn help_fits_80_columns(rt: HostRuntime) {
         &["dtman", "needs", "--help"],
         &["dtman", "drivers", "--help"],
         &["dtman", "trace", "--help"],
+        &["dtman", "check", "--help"],
         &["dtman", "diff", "--help"],
         &["dtman", "get", "--help"],
         &["dtman", "ls", "--help"],

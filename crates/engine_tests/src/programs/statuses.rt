@@ -92,6 +92,8 @@ fn tells_help_on_standard_output_and_mistakes_on_standard_error(rt: HostRuntime)
         (&["dtman", "explain", "64"], 0),
         (&["dtman", "explain", "99"], 2),
         (&["dtman", "explain", "NotReady"], 0),
+        (&["dtman", "explain", "notready"], 0),
+        (&["dtman", "explain", "NOTREADY"], 0),
         (&["dtman", "explain", "all"], 0),
         (&["dtman", "explain"], 0),
         (&["dtman", "explain", "every"], 2),
@@ -107,6 +109,32 @@ fn tells_help_on_standard_output_and_mistakes_on_standard_error(rt: HostRuntime)
     for (words, status) in ROWS {
         is_answered(&rt, hasher, *words, *status);
     }
+}
+
+/// Words for which there is nothing, and what is spelled like them.
+#[test]
+fn tells_words_for_which_there_is_nothing(rt: HostRuntime) {
+    const ROWS: &[Row] = &[
+        (
+            &["dtman", "explain", "99"],
+            2,
+            "",
+            "error: no error has the number 99\n",
+        ),
+        (
+            &["dtman", "explain", "every"],
+            2,
+            "",
+            "error: no error has the name every\n",
+        ),
+        (
+            &["dtman", "explain", "notredy"],
+            2,
+            "",
+            "error: no error has the name notredy; did you mean NotReady?\n",
+        ),
+    ];
+    rows_end(&rt, FILES, ROWS);
 }
 
 fn read_fails<R: AllocGlobal + Threads + Sync + Abort>(

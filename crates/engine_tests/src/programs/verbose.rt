@@ -40,7 +40,7 @@ const NO_OVERLAY: &str =
     "error 40 NotOverlay\nempty.dtb: this is no overlay\n = no child of the root has a child `__overlay__`\n";
 
 const BAD_DRIVERS: &str =
-    "error 50 BadLine line 2\nbad.drivers:2:1: the line has no lawful form\n  |\n2 | driver\n  | ^^^^^^\n";
+    "error 50 BadLine line 2\nbad.drivers:2:7: the line ends, and more must follow\n  |\n2 | driver\n  |       ^\n  = the form is `driver NAME COMPATIBLE..`\n";
 
 const REFUSALS: &[Row] = &[
     (
@@ -171,5 +171,54 @@ fn tells_a_supplier(rt: HostRuntime) {
     for command in ["plan", "probe"] {
         let words = ["dtman", "-v", command, "BLOB", "none"];
         ends(&rt, &words, &mut shelf, 1, "", lines);
+    }
+}
+
+/// Nodes, properties and devices that aren't there, beside those that are: words behind the command, and what is told.
+const MISSING: &[(&[&str], &str)] = &[
+    (
+        &["dtman", "-v", "get", "BLOB", "/uart@5000"],
+        "error 53 UnknownPath\nBLOB: no node has the path `/uart@5000`\n = nodes there that are spelled alike: uart@50000\n",
+    ),
+    (
+        &["dtman", "-v", "ls", "BLOB", "uart@50000"],
+        "error 53 UnknownPath\nBLOB: no node has the path `uart@50000`\n = a path begins with a slash\n",
+    ),
+    (
+        &["dtman", "-v", "get", "BLOB", "/uart@50000", "statos"],
+        "error 53 UnknownPath\nBLOB: the node has no property `statos`\n = in /uart@50000\n = properties there that are spelled alike: status\n",
+    ),
+    (
+        &["dtman", "-v", "needs", "BLOB", "none", "/uart@5000"],
+        "error 53 UnknownPath\nno device has the path `/uart@5000`\n = paths that are like it: /uart@50000\n",
+    ),
+    (
+        &["dtman", "-v", "why", "BLOB", "none", "/bus"],
+        "error 53 UnknownPath\nno device has the path `/bus`\n = the node there has no `compatible`, so it is no device\n",
+    ),
+    (
+        &["dtman", "-v", "plan", "BLOB", "fails"],
+        "error 53 UnknownPath line 2\nfails:2:6: no device has the path `/bus`\n  |\n2 | fail /bus\n  |      ^^^^\n  = the node there has no `compatible`, so it is no device\n",
+    ),
+    (
+        &["dtman", "-v", "plan", "BLOB", "links"],
+        "error 50 BadLine line 1\nlinks:1:1: `early` can't stand here\n  |\n1 | early x\n  | ^^^^^\n  = lines `early` and `bus` count with `--links linux` alone\n",
+    ),
+];
+
+#[test]
+fn tells_what_is_spelled_alike(rt: HostRuntime) {
+    let hasher = RandomState::new(&rt).expect(&rt, "a seed");
+    let source = "/dts-v1/;/{uart@50000{status=\"okay\"; compatible=\"x\";}; bus{};};";
+    let blob = compiled(&rt, rt.alloc(), hasher, source, false);
+    let files = [
+        ("BLOB", blob.as_slice()),
+        ("none", b"".as_slice()),
+        ("fails", b"driver x x\nfail /bus\n".as_slice()),
+        ("links", b"early x\n".as_slice()),
+    ];
+    let mut shelf = Shelf::new(rt.alloc(), &files, hasher);
+    for (words, lines) in MISSING {
+        ends(&rt, *words, &mut shelf, 1, "", *lines);
     }
 }

@@ -1,7 +1,7 @@
 //! The command line.
 
 use clap::error::ErrorKind;
-use dtman_cli::{Board, Command, Language, Links, Picture, command};
+use dtman_cli::{Board, Command, Inspection, Language, Links, Picture, command};
 use std::alloc::Global;
 
 /// The command that the words name, or the kind of their mistake.
@@ -85,6 +85,59 @@ fn reads_compile_with_its_folders(rt: HostRuntime) {
     let words = ["dtman", "compile", "-i", "a", "in", "out"];
     let alone = folders_of(rt.alloc(), words.as_slice());
     assert!(rt; matches!(alone, Err(ErrorKind::MissingRequiredArgument)));
+}
+
+// The words behind `check` that a command line has, or the kind of its mistake.
+fn inspection_of<'a>(
+    alloc: Global,
+    words: &'a [&'a str],
+) -> Result<Option<Inspection<'a>>, ErrorKind> {
+    match read(alloc, words)? {
+        Command::Check { inspection } => Ok(Some(inspection)),
+        _ => Ok(None),
+    }
+}
+
+#[test]
+fn reads_check_with_its_options(rt: HostRuntime) {
+    let words = [
+        "dtman",
+        "check",
+        "-Wreg_format",
+        "a",
+        "--dtc",
+        "-W",
+        "no-pci_bridge",
+        "-E=alias_paths",
+        "-qq",
+        "-i",
+        "include",
+        "--known",
+        "known",
+        "b",
+        "--json",
+    ];
+    let Ok(Some(inspection)) = inspection_of(rt.alloc(), words.as_slice()) else {
+        panic!(&rt; "no check");
+    };
+    assert_eq!(&rt; inspection.inputs.as_slice(), ["a", "b"].as_slice());
+    assert_eq!(&rt; inspection.folders.as_slice(), ["include"].as_slice());
+    assert_eq!(&rt;
+        inspection.warnings.as_slice(),
+        ["reg_format", "no-pci_bridge"].as_slice()
+    );
+    assert_eq!(&rt; inspection.errors.as_slice(), ["alias_paths"].as_slice());
+    assert_eq!(&rt; inspection.known, Some("known"));
+    assert_eq!(&rt; inspection.quiet, 2);
+    assert!(&rt; inspection.json);
+    assert!(&rt; !inspection.learn);
+}
+
+#[test]
+fn check_wants_an_input(rt: HostRuntime) {
+    let words = ["dtman", "check", "--learn"];
+    let alone = inspection_of(rt.alloc(), words.as_slice());
+    assert!(&rt; matches!(alone, Err(ErrorKind::MissingRequiredArgument)));
 }
 
 #[test]
