@@ -1,16 +1,18 @@
 -- What a check finds in a tree, but for nodes side by side with one unit address and unknown properties: node by node in preorder, in each node rule by rule, or property by property.
-use Rattle.std.specs.Prelude.{ℕ, ◌+◌, Bool, true, false, not, ◌||◌, codes, if◌then◌else◌, List, [], ◌∷◌, ◌++◌, Option, Some, None, option_and_then}
+use Rattle.std.specs.Prelude.{ℕ, ◌+◌, Bool, true, false, not, ◌||◌, ◌==◌, length, codes, if◌then◌else◌, List, [], ◌∷◌, ◌++◌, Option, Some, None, option_and_then}
+use Rattle.dt_tree.specs.NodeData.{nodes_of}
 use Rattle.dt_tree.specs.declared.property.Property.{Property}
 use Rattle.dt_check.specs.Cells.{has}
 use Rattle.dt_check.specs.Chosen.{is_gpio, is_named}
 use Rattle.dt_check.specs.Fault.{FaultData}
 use Rattle.dt_check.specs.Nodes.{PlacedData, HereData, here_of, node_at}
+use Rattle.dt_check.specs.UnitRules.{has_unit}
 use Rattle.dt_check_links.specs.Aliases.{alias_fault}
 use Rattle.dt_check_links.specs.Graph.{is_of}
 use Rattle.dt_check_links.specs.Link.{LinkFaultData}
 use Rattle.dt_check_links.specs.Lists.{ListingData, list_fault}
 use Rattle.dt_check_table.specs.declared.check.Among.{Among}
-use Rattle.dt_check_table.specs.declared.check.Among.TheVariants.{All, With, WithEither, Part}
+use Rattle.dt_check_table.specs.declared.check.Among.TheVariants.{All, With, WithEither, Part, Named, Parents, WithUnit}
 use Rattle.dt_check_table.specs.declared.check.Finds.{Finds}
 use Rattle.dt_check_table.specs.declared.check.Finds.TheVariants.{Nothing, Units, Unknown, Node, Properties, Links, Gpios, Aliases}
 use Rattle.dt_check_table.specs.declared.rule.LinkRule.{LinkRule}
@@ -64,6 +66,9 @@ is_among All here = true
 is_among (With name) here = has here.node.properties name.now
 is_among (WithEither name other) here = has here.node.properties name.now || has here.node.properties other.now
 is_among (Part kind) here = is_of kind here
+is_among (Named name) here = is_named name.now here.node
+is_among Parents here = not (length (nodes_of here.node.children) == 0)
+is_among WithUnit here = has_unit here.node
 
 -- in one node; the lines of a hog are no list
 abbrev pub found_here : ℕ → Finds → List PlacedData → ℕ → HereData → List FindingData

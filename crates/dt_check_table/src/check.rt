@@ -23,6 +23,12 @@ pub enum Among {
     WithEither(&'static [u8], &'static [u8]),
     /// The ports of graphs, or the endpoints.
     Part(Graph),
+    /// Those of this name.
+    Named(&'static [u8]),
+    /// Those with nodes below them.
+    Parents,
+    /// Those with a unit address.
+    WithUnit,
 }
 
 /// What a check looks for.

@@ -2,14 +2,17 @@
 ghost use Rattle.std.specs.Prelude.{◌≡◌, ◌++◌, [], false, ℕ, List, Option, OnOk};
 ghost use Rattle.dt_tree.specs.NodeData.{NodeData};
 ghost use Rattle.dt_check.specs.Nodes.{PlacedData, here_of};
+ghost use Rattle.dt_check.specs.UnitRules.{has_unit};
 ghost use Rattle.dt_check_table.specs.Found.{added, added_link, found_by_rules, found_in_properties, found_by_links, lines_fault, found_lines, alias_fault_in, found_aliases, is_among, found_here, found_from, found};
 
 use crate::check::{Among, Finds};
 use crate::finding::Finding;
 use crate::rule::{LinkRule, PropertyRule, Rule};
-use dt_check::{Fault, Graph, Here, Placed, Survey, has, is_gpio, is_named};
+use dt_check::{
+    Fault, Graph, Here, Placed, Survey, children, has, is_gpio, is_named, unit_address,
+};
 use dt_check_links::{LinkFault, Listing, alias_fault, is_of, list_fault};
-use dt_tree::Property;
+use dt_tree::{Node, Property};
 use std::alloc::AllocError;
 
 // Puts a fault of a node last, where there is one.
@@ -150,6 +153,12 @@ fn find_aliases<'t>(
     Ok(())
 }
 
+fn has_unit(node: &Node) -> bool
+    ensures { result ≡ has_unit node.now }
+{
+    !unit_address(node.name_bytes()).is_empty()
+}
+
 // Whether a check of these nodes looks at one.
 fn is_among(here: &Here<'_>, among: Among) -> bool
     ensures { result ≡ is_among among here.now }
@@ -159,6 +168,9 @@ fn is_among(here: &Here<'_>, among: Among) -> bool
         Among::With(name) => has(here.node(), name),
         Among::WithEither(name, other) => has(here.node(), name) || has(here.node(), other),
         Among::Part(kind) => is_of(here, kind),
+        Among::Named(name) => is_named(here.node(), name),
+        Among::Parents => !children(here.node()).is_empty(),
+        Among::WithUnit => has_unit(here.node()),
     }
 }
 
@@ -217,6 +229,9 @@ fn may_be_among(placed: &Placed<'_>, among: Among) -> bool
         Among::WithEither(name, other) => placed.may_have(name) || placed.may_have(other),
         Among::All | Among::Part(Graph::Endpoint) => true,
         Among::Part(Graph::Port) => placed.is_port(),
+        Among::Named(name) => is_named(placed.node(), name),
+        Among::Parents => !children(placed.node()).is_empty(),
+        Among::WithUnit => has_unit(placed.node()),
     }
 }
 

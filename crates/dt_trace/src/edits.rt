@@ -149,7 +149,8 @@ impl<'t> Walk<'t> {
         Ok(None)
     }
 
-    fn clear(&mut self) {
+    /// Forgets the statement so far.
+    pub fn clear(&mut self) {
         self.labels.clear();
         self.statement = Statement::Fresh;
         self.omits = false;

@@ -18,5 +18,5 @@ mod table;
 mod tracing;
 
 pub use culprit::{Culprit, Fault};
-pub use definitions::Definitions;
+pub use definitions::{Definitions, Sought};
 pub use tracing::{Around, Trace, fragment_names, trace_source, whereabouts};

@@ -2,9 +2,9 @@
 use crate::paths::path_at;
 use dt_check::Survey;
 use dt_check_table::Finding;
-use dt_lexeme::{Language, Lexeme, scan_front};
+use dt_lexeme::{Kind, Language, Lexeme, scan_front};
 use dt_place::{Position, positions_of};
-use dt_trace::{Definitions, fragment_names};
+use dt_trace::{Definitions, Sought, fragment_names};
 use std::alloc::{AllocError, Global};
 use std::collections::BTreeSet;
 
@@ -109,6 +109,14 @@ fn names_of(alloc: Global, findings: &[Finding<'_>]) -> Result<Vec<Vec<u8>>, All
     Ok(kept)
 }
 
+// The names of a plugin's fragments.
+fn fragments_of(alloc: Global, lexemes: &[Lexeme]) -> Result<Vec<Vec<u8>>, AllocError> {
+    if lexemes.iter().any(|lexeme| lexeme.kind == Kind::Plugin) {
+        return fragment_names(alloc, lexemes);
+    }
+    Ok(Vec::new(alloc))
+}
+
 fn spots_of(
     alloc: Global,
     text: &[u8],
@@ -116,7 +124,7 @@ fn spots_of(
     survey: &Survey<'_>,
     findings: &[Finding<'_>],
 ) -> Result<Vec<Spots>, AllocError> {
-    let fragments = fragment_names(alloc, lexemes)?;
+    let fragments = fragments_of(alloc, lexemes)?;
     let paths = paths_of(alloc, survey, findings)?;
     let names = names_of(alloc, findings)?;
     let definitions = Definitions::of(
@@ -125,7 +133,10 @@ fn spots_of(
         text,
         lexemes,
         fragments.as_slice(),
-        names.as_slice(),
+        Sought {
+            paths: paths.as_slice(),
+            names: names.as_slice(),
+        },
     )?;
     let mut spots = Vec::with_capacity(alloc, findings.len())?;
     for (finding, path) in findings.iter().zip(paths.iter()) {

@@ -74,7 +74,7 @@ static PART_7: [Check; PART] = [
         severity: Severity::Warning,
         prerequisites: &[83],
         made_before: &[83],
-        finds: Finds::Links(Among::All, &[LinkRule::SingleChild]),
+        finds: Finds::Links(Among::Parents, &[LinkRule::SingleChild]),
     },
     Check {
         name: "graph_port",

@@ -11,14 +11,14 @@ static PART_4: [Check; PART] = [
         severity: Severity::Warning,
         prerequisites: &[],
         made_before: &[],
-        finds: Finds::Node(Among::All, &[Rule::Bootargs]),
+        finds: Finds::Node(Among::Named(b"chosen"), &[Rule::Bootargs]),
     },
     Check {
         name: "chosen_node_stdout_path",
         severity: Severity::Warning,
         prerequisites: &[],
         made_before: &[],
-        finds: Finds::Node(Among::All, &[Rule::OldStdout, Rule::Stdout]),
+        finds: Finds::Node(Among::Named(b"chosen"), &[Rule::OldStdout, Rule::Stdout]),
     },
     Check {
         name: "clocks_property",

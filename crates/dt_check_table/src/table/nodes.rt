@@ -33,7 +33,7 @@ static PART_0: [Check; PART] = [
         severity: Severity::Error,
         prerequisites: &[2],
         made_before: &[2],
-        finds: Finds::Node(Among::All, &[Rule::SecondAt]),
+        finds: Finds::Node(Among::WithUnit, &[Rule::SecondAt]),
     },
     Check {
         name: "property_name_chars",
@@ -237,7 +237,7 @@ static PART_2: [Check; PART] = [
         severity: Severity::Warning,
         prerequisites: &[3, 29, 32],
         made_before: &[2, 3, 15, 13, 14, 23, 29, 19, 32],
-        finds: Finds::Node(Among::All, &[Rule::LeadingHex, Rule::LeadingZero]),
+        finds: Finds::Node(Among::WithUnit, &[Rule::LeadingHex, Rule::LeadingZero]),
     },
     Check {
         name: "pci_bridge",
@@ -302,7 +302,7 @@ static PART_3: [Check; PART] = [
         prerequisites: &[23],
         made_before: &[13, 14, 23],
         finds: Finds::Node(
-            Among::All,
+            Among::Parents,
             &[Rule::BridgeAddress(Bus::I2c), Rule::BridgeSize(Bus::I2c)],
         ),
     },
@@ -319,7 +319,7 @@ static PART_3: [Check; PART] = [
         prerequisites: &[23],
         made_before: &[13, 14, 23],
         finds: Finds::Node(
-            Among::All,
+            Among::Parents,
             &[
                 Rule::SpiName,
                 Rule::BridgeAddress(Bus::Spi),
@@ -339,7 +339,10 @@ static PART_3: [Check; PART] = [
         severity: Severity::Warning,
         prerequisites: &[23],
         made_before: &[13, 14, 23],
-        finds: Finds::Node(Among::All, &[Rule::DefaultAddress, Rule::DefaultSize]),
+        finds: Finds::Node(
+            Among::WithEither(b"reg", b"ranges"),
+            &[Rule::DefaultAddress, Rule::DefaultSize],
+        ),
     },
     Check {
         name: "avoid_unnecessary_addr_size",
@@ -374,7 +377,7 @@ static PART_3: [Check; PART] = [
         severity: Severity::Warning,
         prerequisites: &[],
         made_before: &[],
-        finds: Finds::Node(Among::All, &[Rule::ChosenPlace]),
+        finds: Finds::Node(Among::Named(b"chosen"), &[Rule::ChosenPlace]),
     },
 ];
 
