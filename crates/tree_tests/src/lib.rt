@@ -20,6 +20,8 @@ mod patches;
 #[cfg(test)]
 mod removals;
 #[cfg(test)]
+mod reservations;
+#[cfg(test)]
 mod trees;
 #[cfg(test)]
 mod versions;
