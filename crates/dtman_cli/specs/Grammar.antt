@@ -97,7 +97,7 @@ abbrev pub others : Text → Rule
 others id = record (new_rule id) { action = Some Append }
 
 abbrev pub diff : App
-diff = with_rule (with_rule (new_app (codes "diff")) (required (codes "FIRST"))) (required (codes "SECOND"))
+diff = with_rule (with_rule (with_rule (new_app (codes "diff")) (required (codes "FIRST"))) (required (codes "SECOND"))) (flag (codes "order"))
 
 abbrev pub get : App
 get =
