@@ -25,6 +25,7 @@ ROWS = [
     ("boot-cpu.dts", ["-b", "7", "-R", "2", "-p", "30", "-a", "16"], "room.dtb"),
     ("include.dts", ["-S", "1024"], "space.dtb"),
     ("room.dtb", ["-I", "dtb", "-O", "dtb"], "room-again.dtb"),
+    ("written.dts", ["-O", "dts"], "written.text"),
 ]
 # Boards that the profile refuses.
 REFUSED = ["include", "incbin", "character", "twice", "omit", "moving-label", "own-phandle"]

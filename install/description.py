@@ -266,11 +266,12 @@ COMMANDS = (
         "diff",
         "Compares the boards of two blobs, phandles by the paths they name",
         (Operand("FIRST", "blob", "The one blob"), Operand("SECOND", "blob", "The other blob")),
-        (),
+        (Option("--order", "The order of nodes and properties counts, too"),),
         (
             "Prints what differs as a patch of sources: below the path of each node, lines with - for what the first has alone and with + for what"
             " the second has. The order of nodes and properties doesn't count, and a phandle counts as the path of the node that it names. It"
-            " prints nothing exactly where the two are the same board; where they differ the status is 1.",
+            " prints nothing exactly where the two are the same board; where they differ the status is 1. With --order it also prints what both"
+            " have in another order, and nothing exactly where the two are the same in order, too.",
         ),
         (("Two builds of a board", "dtman diff old.dtb new.dtb"),),
         "30 to 38, of the first before those of the second",

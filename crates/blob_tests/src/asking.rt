@@ -3,7 +3,7 @@
 use super::boards::{CHANGED, CLOCKED};
 use dt_query::QueryError;
 use dtman_blobs::{
-    AskError, Titles, ValueType, diff_bytes, list_text, node_text, set_bytes, value_line,
+    AskError, Sameness, Titles, ValueType, diff_bytes, list_text, node_text, set_bytes, value_line,
 };
 use std::hash::RandomState;
 use std::process::Abort;
@@ -122,7 +122,14 @@ fn a_property_is_set_where_it_stands(rt: HostRuntime) {
         first: "a",
         second: "b",
     };
-    let differing = diff_bytes(rt.alloc(), hasher, titles, CLOCKED, changed.as_slice());
+    let differing = diff_bytes(
+        rt.alloc(),
+        hasher,
+        titles,
+        Sameness::Board,
+        CLOCKED,
+        changed.as_slice(),
+    );
     let differing = differing.expect(&rt, "a text");
     let wanted =
         b"--- a\n+++ b\n@@ /u@1 @@\n-\tclocks = <&{/clk} 0x00000002>;\n+\tclocks = <&{/clk} 0x00000003>;\n";

@@ -1,7 +1,7 @@
 //! Boards compared: the definition's rows (docs/model/diff.md).
 
 use super::boards::{CHANGED, CLOCKED, TURNED};
-use dtman_blobs::{DiffError, Titles, diff_bytes};
+use dtman_blobs::{DiffError, Sameness, Titles, diff_bytes};
 use std::hash::RandomState;
 use std::process::Abort;
 
@@ -13,6 +13,7 @@ const TITLES: Titles<'static> = Titles {
 /// Two blobs, and what is printed of them.
 #[derive(Clone, Copy)]
 struct Row {
+    sameness: Sameness,
     first: &'static [u8],
     second: &'static [u8],
     text: &'static [u8],
@@ -20,30 +21,60 @@ struct Row {
 
 const ROWS: &[Row] = &[
     Row {
+        sameness: Sameness::Board,
         first: CLOCKED,
         second: CLOCKED,
         text: b"",
     },
     // Order and the numbers of phandles don't count.
     Row {
+        sameness: Sameness::Board,
         first: CLOCKED,
         second: TURNED,
         text: b"",
     },
     Row {
+        sameness: Sameness::Board,
         first: CLOCKED,
         second: CHANGED,
         text: b"--- a\n+++ b\n@@ /u@1 @@\n-\tclocks = <&{/clk} 0x00000002>;\n-\tstatus = \"okay\";\n+\tclocks = <&{/clk} 0x00000003>;\n+\tnew;\n",
     },
     Row {
+        sameness: Sameness::Board,
         first: CHANGED,
         second: TURNED,
         text: b"--- a\n+++ b\n@@ /u@1 @@\n-\tclocks = <&{/clk} 0x00000003>;\n-\tnew;\n+\tstatus = \"okay\";\n+\tclocks = <&{/clk} 0x00000002>;\n",
     },
+    // By order, of one board and of two.
+    Row {
+        sameness: Sameness::InOrder,
+        first: CLOCKED,
+        second: CLOCKED,
+        text: b"",
+    },
+    Row {
+        sameness: Sameness::InOrder,
+        first: CLOCKED,
+        second: TURNED,
+        text: b"--- a\n+++ b\n@@ / @@\n-\t// order of children: clk, u@1\n+\t// order of children: u@1, clk\n@@ /u@1 @@\n-\t// order of properties: clocks, status\n+\t// order of properties: status, clocks\n",
+    },
+    Row {
+        sameness: Sameness::InOrder,
+        first: CHANGED,
+        second: TURNED,
+        text: b"--- a\n+++ b\n@@ /u@1 @@\n-\tclocks = <&{/clk} 0x00000003>;\n-\tnew;\n+\tstatus = \"okay\";\n+\tclocks = <&{/clk} 0x00000002>;\n@@ / @@\n-\t// order of children: clk, u@1\n+\t// order of children: u@1, clk\n",
+    },
 ];
 
 fn compare(rt: &(impl Abort + AllocGlobal), hasher: RandomState, row: &Row) {
-    let text = diff_bytes(rt.alloc(), hasher, TITLES, row.first, row.second);
+    let text = diff_bytes(
+        rt.alloc(),
+        hasher,
+        TITLES,
+        row.sameness,
+        row.first,
+        row.second,
+    );
     let text = text.expect(rt, "a text");
     assert_eq!(rt; text.as_slice(), row.text);
 }
@@ -59,8 +90,9 @@ fn boards_differ_by_paths(rt: HostRuntime) {
 #[test]
 fn the_blob_that_is_none_is_told(rt: HostRuntime) {
     let hasher = RandomState::new(&rt).expect(&rt, "a seed");
-    let first = diff_bytes(rt.alloc(), hasher, TITLES, b"no blob", CLOCKED);
+    let board = Sameness::Board;
+    let first = diff_bytes(rt.alloc(), hasher, TITLES, board, b"no blob", CLOCKED);
     assert!(rt; matches!(first, Err(DiffError::First(_))));
-    let second = diff_bytes(rt.alloc(), hasher, TITLES, CLOCKED, b"no blob");
+    let second = diff_bytes(rt.alloc(), hasher, TITLES, board, CLOCKED, b"no blob");
     assert!(rt; matches!(second, Err(DiffError::Second(_))));
 }

@@ -2,6 +2,8 @@ mod CellLemmas
 mod CompareLemmas
 mod ListedLemmas
 mod NamingLemmas
+mod OrderLaws
+mod OrderLemmas
 mod PartLemmas
 mod SameNodes
 mod SharedLemmas

@@ -17,10 +17,10 @@ use Rattle.dt_diff.specs.Private.Tests.{same_parts, is_same_value, is_alone}
 use Rattle.dt_diff.proofs.ListedLemmas.{join-nil, listed-more, listed-nil, split-nil}
 use Rattle.dt_diff.proofs.PartLemmas.{parts-equal, parts-refl}
 
-abbrev Names : Type 0
+abbrev pub Names : Type 0
 Names = ℕ → Option NamedNode
 
-true-false : {A : Type 0} → true ≡ false → A
+pub true-false : {A : Type 0} → true ≡ false → A
 true-false e = absurd (cc e)
 
 -- ---- properties
@@ -62,7 +62,7 @@ values-agree n n' text ps qs first second name counts = by_values (value_of ps n
   by_values None e (Some w) e' = absurd (let h : Some (seen n' name w) ≡ shown n name (value_of ps name) = none-alone n' n false text qs ps second name counts w e' in let g : Some (seen n' name w) ≡ None = h ∙ ap (shown n name) e in cc g)
 
 -- each of the properties is found under its name
-abbrev AreFound : List Property → List Property → Type 0
+abbrev pub AreFound : List Property → List Property → Type 0
 AreFound all [] = Unit {0}
 AreFound all (p ∷ ps) = (value_of all p.name ≡ Some p.value) × AreFound all ps
 
@@ -77,7 +77,7 @@ found-behind q all (p ∷ ps) absent found =
     let other : bytes_eq q.name p.name ≡ false = bytes_eq-sym p.name q.name false parts.0 in
     (rw other found.0, found-behind q all ps parts.1 found.1)
 
-all-found : (ps : List Property) → are_distinct (property_names ps) ≡ true → AreFound ps ps
+pub all-found : (ps : List Property) → are_distinct (property_names ps) ≡ true → AreFound ps ps
 all-found [] d = tt
 all-found (p ∷ ps) d =
     (rw (bytes_eq-refl p.name) refl, found-behind p ps ps (distinct_head p.name (property_names ps) _ refl d) (all-found ps (distinct_tail p.name (property_names ps) _ refl d)))
@@ -111,7 +111,7 @@ none-new is_first text names (more n p kids rest) h k there =
       by_name true e there here others = ap (λ (m : List ℕ). is_among m names) (sym ((bytes_eq-Decides n k).0 e)) ∙ here
       by_name false e there here others = others there
 
-or-true : (a : Bool) → (a || true) ≡ true
+pub or-true : (a : Bool) → (a || true) ≡ true
 or-true true = refl
 or-true false = refl
 
@@ -195,11 +195,11 @@ module _ (n n' : Names) where
   }
 
   -- ---- and back
-  abbrev Same : NodeData → NodeData → Type 0
+  abbrev pub Same : NodeData → NodeData → Type 0
   Same a b = AreSameNodes n n' (path_map a) (path_map b)
 
   -- the same below a child that both have
-  same-child : (a b : NodeData) → Same a b → (k : List ℕ) (c d : NodeData) → child_named a.children k ≡ Some c → child_named b.children k ≡ Some d → Same c d
+  pub same-child : (a b : NodeData) → Same a b → (k : List ℕ) (c d : NodeData) → child_named a.children k ≡ Some c → child_named b.children k ≡ Some d → Same c d
   same-child a b s k c d e e' = record {
     has = λ path.
         ap (λ (o : Option NodeData). is_some (option_and_then (λ x. node_at x path) o)) (sym e) ∙ s.has (k ∷ path)
@@ -214,7 +214,7 @@ module _ (n n' : Names) where
   some-some None = refl
   some-some (Some c) = refl
 
-  same-names : (a b : NodeData) → Same a b → (k : List ℕ) → is_among k (child_names a.children) ≡ is_among k (child_names b.children)
+  pub same-names : (a b : NodeData) → Same a b → (k : List ℕ) → is_among k (child_names a.children) ≡ is_among k (child_names b.children)
   same-names a b s k =
       sym (child-among a.children k) ∙ sym (some-some (child_named a.children k)) ∙ s.has (k ∷ [])
       ∙ some-some (child_named b.children k) ∙ child-among b.children k
@@ -230,7 +230,7 @@ module _ (n n' : Names) where
       (new-none false text (child_names a.children) b.children (λ k there. same-names a b s k ∙ there))))
 
   -- each of the nodes is found under its name
-  abbrev AreFoundNodes : Siblings → Siblings → Type 0
+  abbrev pub AreFoundNodes : Siblings → Siblings → Type 0
   AreFoundNodes all none = Unit {0}
   AreFoundNodes all (more m p kids rest) = (child_named all m ≡ Some (node_data m p kids)) × AreFoundNodes all rest
 
@@ -241,12 +241,12 @@ module _ (n n' : Names) where
       let other : bytes_eq m k ≡ false = bytes_eq-sym k m false parts.0 in
       (rw other found.0, nodes-behind m p kids all rest parts.1 found.1)
 
-  all-nodes-found : (f : Siblings) → are_distinct (child_names f) ≡ true → AreFoundNodes f f
+  pub all-nodes-found : (f : Siblings) → are_distinct (child_names f) ≡ true → AreFoundNodes f f
   all-nodes-found none d = tt
   all-nodes-found (more m p kids rest) d =
       (rw (bytes_eq-refl m) refl, nodes-behind m p kids rest rest (distinct_head m (child_names rest) _ refl d) (all-nodes-found rest (distinct_tail m (child_names rest) _ refl d)))
 
-  abbrev AgreeBelow : Siblings → Siblings → Type 0
+  abbrev pub AgreeBelow : Siblings → Siblings → Type 0
   AgreeBelow all g = (k : List ℕ) (c d : NodeData) → child_named all k ≡ Some c → child_named g k ≡ Some d → Same c d
 
   shared-none : (f all g : Siblings) (text : List ℕ) → IsSoundBelow f → IsSoundBelow g → AreFoundNodes all f → AgreeBelow all g → shared_differences n n' text f g ≡ []

@@ -4,4 +4,5 @@ pub mod Named
 pub mod Private
 pub mod ReferenceTable
 pub mod SameBoard
+pub mod SameOrder
 pub mod Seen

@@ -3,6 +3,7 @@ pub mod Differences
 pub mod Kept
 pub mod Left
 pub mod Listed
+pub mod Orders
 pub mod Rows
 pub mod Tests
 pub mod Things

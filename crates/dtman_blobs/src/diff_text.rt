@@ -1,7 +1,8 @@
 //! What differs, as a patch of sources.
 ghost use Rattle.std.specs.Prelude.{◌<◌, IfOk, length};
 
-use crate::diffing::Titles;
+use crate::diffing::{Outcome, Titles};
+use crate::order_lines::add_moved;
 use crate::source_lines::{add_node, add_property, shown_path};
 use dt_blob::BlobError;
 use dt_diff::{Comparison, Difference, Naming, Side, Thing};
@@ -84,6 +85,13 @@ fn add_thing(
     }
 }
 
+/// The line of a node's path, below which stands what differs in the node.
+pub(crate) fn add_place(text: &mut Vec<u8>, path: &[u8]) -> Result<(), AllocError> {
+    text.extend_from_slice(b"@@ ")?;
+    text.extend_from_slice(shown_path(path))?;
+    text.extend_from_slice(b" @@\n")
+}
+
 // The differences, those of a node below its path.
 fn add_differences(
     alloc: Global,
@@ -95,9 +103,7 @@ fn add_differences(
     for difference in differences {
         let path = difference.path();
         if here != Some(path) {
-            text.extend_from_slice(b"@@ ")?;
-            text.extend_from_slice(shown_path(path))?;
-            text.extend_from_slice(b" @@\n")?;
+            add_place(text, path)?;
         }
         add_thing(alloc, text, pair, difference)?;
         here = Some(path);
@@ -123,7 +129,7 @@ fn lines_of(
     hasher: RandomState,
     first: &Tree,
     second: &Tree,
-    comparison: &Comparison<'_>,
+    outcome: &Outcome<'_>,
 ) -> Result<Vec<u8>, BlobError> {
     let first_naming = Naming::of(alloc, hasher, first)?;
     let second_naming = Naming::of(alloc, hasher, second)?;
@@ -132,22 +138,24 @@ fn lines_of(
         second: &second_naming,
     };
     let mut text = Vec::new(alloc);
+    let comparison = &outcome.comparison;
     add_header(alloc, &mut text, first, second, comparison)?;
     add_differences(alloc, &mut text, &pair, comparison.differences.as_slice())?;
+    add_moved(&mut text, outcome.moved.as_slice())?;
     Ok(text)
 }
 
 /// The text of what differs: the titles, and then the lines.
-pub fn difference_text(
+pub(crate) fn difference_text(
     alloc: Global,
     hasher: RandomState,
     titles: Titles<'_>,
     first: &Tree,
     second: &Tree,
-    comparison: &Comparison<'_>,
+    outcome: &Outcome<'_>,
 ) -> Result<Vec<u8>, BlobError>
     ensures { IfOk result (λ text. 0 < length text.items) }
 {
-    let lines = lines_of(alloc, hasher, first, second, comparison)?;
+    let lines = lines_of(alloc, hasher, first, second, outcome)?;
     Ok(titled(alloc, titles, lines.as_slice())?)
 }

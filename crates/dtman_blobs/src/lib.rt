@@ -4,13 +4,14 @@
 mod asking;
 mod diff_text;
 mod diffing;
+mod order_lines;
 mod saying;
 mod showing;
 mod source_lines;
 mod value_type;
 
 pub use asking::{AskError, list_text, node_text, set_bytes, value_line};
-pub use diffing::{DiffError, Titles, diff_bytes};
+pub use diffing::{DiffError, Sameness, Titles, diff_bytes};
 pub use saying::{SayError, said};
 pub use showing::{ShowError, are_texts, shown};
 pub use value_type::{Notation, ValueType, Width};

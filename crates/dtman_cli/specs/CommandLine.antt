@@ -100,8 +100,9 @@ IsMet (Replay plan schedule workers) name rows =
     (name ≡ codes "replay") × (first_of (codes "PLAN") rows ≡ Some plan.now) × (first_of (codes "SCHEDULE") rows ≡ Some schedule.now)
     × AreAsked workers rows
 IsMet (Check inspection) name rows = (name ≡ codes "check") × IsInspection inspection rows
-IsMet (Diff first second) name rows =
+IsMet (Diff first second order) name rows =
     (name ≡ codes "diff") × (first_of (codes "FIRST") rows ≡ Some first.now) × (first_of (codes "SECOND") rows ≡ Some second.now)
+    × (order ≡ is_on (first_of (codes "order") rows))
 IsMet (Get blob path property kind) name rows =
     (name ≡ codes "get") × (first_of (codes "BLOB") rows ≡ Some blob.now) × (first_of (codes "PATH") rows ≡ Some path.now)
     × IsText property (codes "PROPERTY") rows × IsText kind (codes "type") rows

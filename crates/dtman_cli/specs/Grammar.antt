@@ -125,7 +125,7 @@ check =
     (flag (codes "learn"))
 
 abbrev pub diff : App
-diff = with_rule (with_rule (new_app (codes "diff")) (required (codes "FIRST"))) (required (codes "SECOND"))
+diff = with_rule (with_rule (with_rule (new_app (codes "diff")) (required (codes "FIRST"))) (required (codes "SECOND"))) (flag (codes "order"))
 
 abbrev pub get : App
 get =

@@ -325,8 +325,10 @@ fn diff<'a>(alloc: Global) -> Result<Command<'a>, AllocError>
     ensures { IfOk result (λ c. (app_of c ≡ spec.diff) × ((out-Command c).has_globals ≡ false)) }
 {
     let about = "Compares the boards of two blobs, phandles by the paths they name";
+    let order = "The order of nodes and properties counts, too";
     let command = named(alloc, "diff", about).arg(required(alloc, "FIRST", "The one blob"));
-    add_argument(command, required(alloc, "SECOND", "The other blob"))
+    let command = add_argument(command, required(alloc, "SECOND", "The other blob"));
+    add_argument(command, flag(alloc, "order", order))
 }
 
 fn get<'a>(alloc: Global) -> Result<Command<'a>, AllocError>

@@ -7,8 +7,8 @@ use crate::performing::Answer;
 use crate::surroundings::Surroundings;
 use dt_query::QueryError;
 use dtman_blobs::{
-    AskError, DiffError, ShowError, Titles, ValueType, diff_bytes, list_text, node_text, set_bytes,
-    value_line,
+    AskError, DiffError, Sameness, ShowError, Titles, ValueType, diff_bytes, list_text, node_text,
+    set_bytes, value_line,
 };
 use dtman_engine::{Fault, Position};
 
@@ -73,11 +73,21 @@ fn unanswered<'a>(asked: Asked<'a>, error: AskError<'a>) -> Failure<'a> {
     }
 }
 
+/// What is the same to a comparison by which order counts, or doesn't.
+pub fn sameness_of(order: bool) -> Sameness {
+    if order {
+        Sameness::InOrder
+    } else {
+        Sameness::Board
+    }
+}
+
 /// What differs between two blobs.
 pub fn compared<'a, S: Surroundings, E: Eprint, T>(
     host: &mut Host<'_, S, E, T>,
     first_path: &'a str,
     second_path: &'a str,
+    sameness: Sameness,
 ) -> Result<Answer<'a>, Failure<'a>> {
     let first = host.blob(first_path)?;
     let second = host.blob(second_path)?;
@@ -90,6 +100,7 @@ pub fn compared<'a, S: Surroundings, E: Eprint, T>(
         host.alloc,
         hasher,
         titles,
+        sameness,
         first.as_slice(),
         second.as_slice(),
     );

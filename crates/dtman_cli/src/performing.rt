@@ -8,7 +8,7 @@ use crate::explaining::explained;
 use crate::failure::Failure;
 use crate::files::{print, write_at};
 use crate::host::Host;
-use crate::nodes::{Asked, changed, compared, listed, valued};
+use crate::nodes::{Asked, changed, compared, listed, sameness_of, valued};
 use crate::questions::{needed, planned, probed, waiting};
 use crate::subcommand::Command;
 use crate::surroundings::Surroundings;
@@ -102,7 +102,11 @@ fn answer_of<'a, S: Surroundings, E: Eprint, T: Threads + Sync>(
             workers,
         } => replayed(host, plan, schedule, workers),
         Command::Check { inspection } => checked(host, &inspection),
-        Command::Diff { first, second } => compared(host, first, second),
+        Command::Diff {
+            first,
+            second,
+            order,
+        } => compared(host, first, second, sameness_of(order)),
         Command::Get {
             blob,
             path,

@@ -230,7 +230,12 @@ fn diff<'a>(given: &ArgMatches<'a>) -> Option<Command<'a>>
 {
     let first = given.get_str("FIRST")?;
     let second = given.get_str("SECOND")?;
-    Some(Command::Diff { first, second })
+    let order = is_on(given, "order");
+    Some(Command::Diff {
+        first,
+        second,
+        order,
+    })
 }
 
 fn get<'a>(given: &ArgMatches<'a>) -> Option<Command<'a>>

@@ -116,6 +116,8 @@ pub enum Command<'a> {
     Diff {
         first: &'a str,
         second: &'a str,
+        /// The order of nodes and properties counts.
+        order: bool,
     },
     Get {
         blob: &'a str,

@@ -17,7 +17,7 @@ pub enum Texts {
 
 /// The form of a value.
 #[derive(Clone, Copy, Debug, PartialEq, Eq)]
-enum Form {
+pub(crate) enum Form {
     Texts,
     Cells,
     Bytes,
@@ -36,7 +36,8 @@ fn are_texts(value: &[u8]) -> bool {
         && zeros <= value.len().saturating_sub(zeros)
 }
 
-fn form_of(value: &[u8]) -> Form {
+/// The form that a value is taken for.
+pub(crate) fn form_of(value: &[u8]) -> Form {
     if are_texts(value) {
         return Form::Texts;
     }
@@ -64,18 +65,31 @@ fn escape_of(byte: u8) -> Option<u8> {
 
 /// The text so far.
 #[derive(Drop)]
-struct Layout {
+pub(crate) struct Layout {
     alloc: Global,
     text: Vec<u8>,
     texts: Texts,
 }
 
 impl Layout {
-    fn put(&mut self, bytes: &[u8]) -> Result<(), AllocError> {
+    pub(crate) fn new(alloc: Global, texts: Texts) -> Layout {
+        Layout {
+            alloc,
+            text: Vec::new(alloc),
+            texts,
+        }
+    }
+
+    pub(crate) fn into_text(self) -> Vec<u8> {
+        let Layout { text, .. } = self;
+        text
+    }
+
+    pub(crate) fn put(&mut self, bytes: &[u8]) -> Result<(), AllocError> {
         self.text.extend_from_slice(bytes)
     }
 
-    fn indent(&mut self, depth: usize) -> Result<(), AllocError> {
+    pub(crate) fn indent(&mut self, depth: usize) -> Result<(), AllocError> {
         for _level in 0..depth {
             self.text.push(b'\t')?;
         }
@@ -91,6 +105,26 @@ impl Layout {
             return Ok(self.text.push(letter)?);
         }
         Ok(self.text.push(byte)?)
+    }
+
+    // What is no letter is put by its number, as dtc takes a byte: with a sign.
+    fn put_byte(&mut self, byte: u8) -> Result<(), AllocError> {
+        if is_in_text(byte) {
+            return self.put_letter(byte);
+        }
+        let front = if byte < 128 { "" } else { "ffffff" };
+        let digits = format!(in self.alloc; "\\x{front}{byte:02x}")?;
+        self.put(digits.as_bytes())
+    }
+
+    /// Puts a text of any bytes, which the last ends.
+    pub(crate) fn put_text(&mut self, value: &[u8]) -> Result<(), AllocError> {
+        let (_, text) = value.split_last().unwrap_or((&0, b""));
+        self.put(b"\"")?;
+        for byte in text {
+            self.put_byte(*byte)?;
+        }
+        self.put(b"\"")
     }
 
     // The last zero byte ends the string.
@@ -168,6 +202,12 @@ impl Layout {
         self.put(b"};\n")
     }
 
+    /// What stands before the root.
+    pub(crate) fn put_head(&mut self, tree: &Tree) -> Result<(), AllocError> {
+        self.put(b"/dts-v1/;\n\n")?;
+        self.put_reserves(tree.reserves())
+    }
+
     fn put_reserves(&mut self, reserves: &[(u64, u64)]) -> Result<(), AllocError> {
         for (address, size) in reserves {
             let line = format!(in self.alloc; "/memreserve/\t0x{address:016x} 0x{size:016x};\n")?;
@@ -184,13 +224,8 @@ pub fn layout_bytes(alloc: Global, blob: &[u8], texts: Texts) -> Result<Vec<u8>,
 }
 
 fn laid_out(alloc: Global, tree: &Tree, texts: Texts) -> Result<Vec<u8>, AllocError> {
-    let mut layout = Layout {
-        alloc,
-        text: Vec::new(alloc),
-        texts,
-    };
-    layout.put(b"/dts-v1/;\n\n")?;
-    layout.put_reserves(tree.reserves())?;
+    let mut layout = Layout::new(alloc, texts);
+    layout.put_head(tree)?;
     layout.put_node(b"/", tree.root(), 0)?;
-    Ok(layout.text)
+    Ok(layout.into_text())
 }

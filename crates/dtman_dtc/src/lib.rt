@@ -9,11 +9,14 @@ mod edits;
 mod folder_tree;
 mod host;
 mod layout;
+mod marked_value;
+mod markers;
 mod options;
 mod overlaying;
 mod reports;
 mod running;
 mod searching;
+mod source_layout;
 mod wording;
 
 pub use checking::run_check;

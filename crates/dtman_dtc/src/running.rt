@@ -8,6 +8,8 @@ use crate::layout::Texts;
 use crate::options::{Asked, Format, Options, Order, Output, format_named, read_words};
 use crate::reports::{Failure, fail, report_fault, report_shortfall, report_source};
 use crate::searching::Searching;
+use crate::source_layout::{Source, source_text};
+use dt_blob::BlobError;
 use dt_include::{Whole, included, plain};
 use std::alloc::Global;
 
@@ -92,37 +94,79 @@ fn convert<'a, H: Host, C: Compiler>(
     compiler: &mut C,
     options: &Options<'a>,
 ) -> Result<(), Failure<'a>> {
-    let Given { from, bytes } = input_of(alloc, host, options)?;
+    let given = input_of(alloc, host, options)?;
+    let from = given.from;
     let to = options
         .to
         .unwrap_or(Output::Holds(wanted(options.output, from)));
     let mut found = Vec::new(alloc);
-    let Made { blob, text } = match (from, to) {
-        (Format::Dts, _) => compiled(alloc, host, compiler, options, bytes.as_slice(), &mut found)?,
-        // what is printed is read once, and what a folder holds was laid out just now
-        (Format::Dtb, Output::Holds(Format::Dts)) => of_blob(alloc, bytes),
-        (Format::Folder, _) => of_blob(alloc, booted(bytes, options)),
-        (Format::Dtb, _) => of_blob(
-            alloc,
-            copied(alloc, host, compiler, options, bytes.as_slice())?,
-        ),
-    };
-    checked(alloc, host, options, from, blob.as_slice(), text.as_slice())?;
+    let made = taken(alloc, host, compiler, options, given, to, &mut found)?;
+    checked(
+        alloc,
+        host,
+        options,
+        from,
+        made.blob.as_slice(),
+        made.text.as_slice(),
+    )?;
+    let Made {
+        blob,
+        text,
+        labelled,
+    } = made;
     let blob = ordered(alloc, host, compiler, options, blob)?;
+    let source = Source {
+        text: text.as_slice(),
+        labelled: labelled.as_slice(),
+    };
     let output = match to {
-        Output::Holds(Format::Dts) => dumped(
-            alloc,
-            host,
-            compiler,
-            options,
-            from,
-            blob.as_slice(),
-        )?,
+        Output::Holds(Format::Dts) => {
+            printed(
+                alloc,
+                host,
+                compiler,
+                options,
+                from,
+                blob.as_slice(),
+                source,
+            )?
+        }
         Output::Holds(_) => widened(alloc, host, options, blob.as_slice())?,
         Output::Nothing => return put_found(alloc, host, options, found.as_slice()),
     };
     put_found(alloc, host, options, found.as_slice())?;
     put(host, options.output, output.as_slice())
+}
+
+/// The blob of what was given, as far as it is needed.
+fn taken<H: Host, C: Compiler>(
+    alloc: Global,
+    host: &mut H,
+    compiler: &mut C,
+    options: &Options<'_>,
+    given: Given,
+    to: Output,
+    found: &mut Vec<Vec<u8>>,
+) -> Result<Made, Failure<'static>> {
+    let Given { from, bytes } = given;
+    match (from, to) {
+        (Format::Dts, _) => compiled_to(
+            alloc,
+            host,
+            compiler,
+            options,
+            to,
+            bytes.as_slice(),
+            found,
+        ),
+        // what is printed is read once, and what a folder holds was laid out just now
+        (Format::Dtb, Output::Holds(Format::Dts)) => Ok(of_blob(alloc, bytes)),
+        (Format::Folder, _) => Ok(of_blob(alloc, booted(bytes, options))),
+        (Format::Dtb, _) => {
+            let copy = copied(alloc, host, compiler, options, bytes.as_slice())?;
+            Ok(of_blob(alloc, copy))
+        }
+    }
 }
 
 /// What was given: what it is, and its bytes; those of its blob where it is a folder.
@@ -187,6 +231,8 @@ pub(crate) struct Made {
     pub blob: Vec<u8>,
     /// No bytes where there is none.
     pub text: Vec<u8>,
+    /// The blob with the paths of all labelled nodes, where these are asked for and can be told.
+    pub labelled: Vec<u8>,
 }
 
 /// A blob that was made of no source.
@@ -194,6 +240,7 @@ pub(crate) fn of_blob(alloc: Global, blob: Vec<u8>) -> Made {
     Made {
         blob,
         text: Vec::new(alloc),
+        labelled: Vec::new(alloc),
     }
 }
 
@@ -216,7 +263,11 @@ pub(crate) fn compiled<H: Host, C: Compiler>(
         boot_processor: options.boot_cpu,
     };
     match compiler.compile(alloc, hasher, text.as_slice(), binaries, compilation) {
-        Ok(blob) => Ok(Made { blob, text }),
+        Ok(blob) => Ok(Made {
+            blob,
+            text,
+            labelled: Vec::new(alloc),
+        }),
         Err(fault) => Err(report_source(alloc, host, file, text.as_slice(), &fault)),
     }
 }
@@ -280,19 +331,82 @@ fn ordered<H: Host, C: Compiler>(
     }
 }
 
-/// The source of a blob in dtc's layout. What a source was made of is no longer known: its strings are told apart.
-fn dumped<H: Host, C: Compiler>(
+/// The blob of a source and, where it is to be printed, its labels.
+fn compiled_to<H: Host, C: Compiler>(
+    alloc: Global,
+    host: &mut H,
+    compiler: &mut C,
+    options: &Options<'_>,
+    to: Output,
+    source: &[u8],
+    found: &mut Vec<Vec<u8>>,
+) -> Result<Made, Failure<'static>> {
+    let made = compiled(alloc, host, compiler, options, source, found)?;
+    if to != Output::Holds(Format::Dts) {
+        return Ok(made);
+    }
+    let Made { blob, text, .. } = made;
+    let labelled = labelled(alloc, host, compiler, options, source)?;
+    Ok(Made {
+        blob,
+        text,
+        labelled,
+    })
+}
+
+/// The blob of a source with the paths of all labelled nodes; none where they can't be told.
+fn labelled<H: Host, C: Compiler>(
+    alloc: Global,
+    host: &mut H,
+    compiler: &mut C,
+    options: &Options<'_>,
+    source: &[u8],
+) -> Result<Vec<u8>, Failure<'static>> {
+    let Ok(hasher) = host.seed() else {
+        return Err(Failure::NoSeed);
+    };
+    let mut found = Vec::new(alloc);
+    let file = plain(named(options.input).as_bytes());
+    let Whole { text, binaries } = whole(alloc, host, options, file, source, &mut found)?;
+    let compilation = Compilation {
+        symbols: true,
+        boot_processor: None,
+    };
+    match compiler.compile(alloc, hasher, text.as_slice(), binaries, compilation) {
+        Ok(blob) => Ok(blob),
+        Err(_) => Ok(Vec::new(alloc)),
+    }
+}
+
+/// What was given, as a source in dtc's layout.
+fn printed<H: Host, C: Compiler>(
     alloc: Global,
     host: &mut H,
     compiler: &mut C,
     options: &Options<'_>,
     from: Format,
     blob: &[u8],
+    source: Source<'_>,
 ) -> Result<Vec<u8>, Failure<'static>> {
-    let texts = match from {
-        Format::Dts => Texts::Apart,
-        Format::Dtb | Format::Folder => Texts::Joined,
-    };
+    if from != Format::Dts {
+        return dumped(alloc, host, compiler, options, Texts::Joined, blob);
+    }
+    match source_text(alloc, blob, source) {
+        Ok(text) => Ok(text),
+        Err(BlobError::NoMemory) => Err(Failure::NoMemory),
+        Err(_) => dumped(alloc, host, compiler, options, Texts::Apart, blob),
+    }
+}
+
+/// The source of a blob in dtc's layout.
+fn dumped<H: Host, C: Compiler>(
+    alloc: Global,
+    host: &mut H,
+    compiler: &mut C,
+    options: &Options<'_>,
+    texts: Texts,
+    blob: &[u8],
+) -> Result<Vec<u8>, Failure<'static>> {
     match compiler.dump(alloc, blob, texts) {
         Ok(text) => Ok(text),
         Err(fault) => Err(report_fault(alloc, host, options.input.as_bytes(), b"", &fault)),

@@ -15,8 +15,8 @@ of-text a b (Err (Text e)) h = tt
 pub returns-clause-same : goal.returns-clause-same
 returns-clause-same c = λ s t holds also.
     let r = c.trees_diff.result in
-    subst (λ (x : TreeData). IfOk r (λ text. TellsSame s x text.items)) (c.in-Ok-read.ensures.only t also)
-    (subst (λ (x : TreeData). IfOk r (λ text. TellsSame x c.in-Ok-read.tree text.items)) (c.in-Ok.ensures.only s holds) c.trees_diff.ensures.same)
+    subst (λ (x : TreeData). IfOk r (λ text. TellsSame c.args.sameness s x text.items)) (c.in-Ok-read.ensures.only t also)
+    (subst (λ (x : TreeData). IfOk r (λ text. TellsSame c.args.sameness x c.in-Ok-read.tree text.items)) (c.in-Ok.ensures.only s holds) c.trees_diff.ensures.same)
 
 pub returns-clause-refused : goal.returns-clause-refused
 returns-clause-refused c = of-text c.args.first.now c.args.second.now c.trees_diff.result c.trees_diff.ensures.refused

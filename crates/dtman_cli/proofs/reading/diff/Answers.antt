@@ -5,4 +5,4 @@ use Rattle.dtman_cli.proofs.reading.diff.Goals as goal
 pub returns : goal.returns
 returns c =
     let given = c.args.given.now in
-    (refl, value given (codes "FIRST") c.in_ok-first.first.now c.in_ok-first.ensures, value given (codes "SECOND") c.in_ok-second.second.now c.in_ok-second.ensures)
+    (refl, value given (codes "FIRST") c.in_ok-first.first.now c.in_ok-first.ensures, value given (codes "SECOND") c.in_ok-second.second.now c.in_ok-second.ensures, c.is_on-order.ensures)

@@ -1,0 +1,403 @@
+//! A tree as dtc prints a source (`-O dts`): with the labels of its nodes and properties, and its values as they were written.
+//!
+//! dtc's manual (Documentation/manual.txt, section '4.1 Overview') says what stands in a source.
+
+use crate::layout::{Form, Layout, Texts, form_of};
+use crate::marked_value::put_marked;
+use crate::markers::{Mark, Marker, Written, markers_of};
+use dt_blob::{BlobError, read};
+use dt_lexeme::{Kind, Language, Lexeme, scan_front};
+use dt_trace::{Definitions, fragment_names};
+use dt_tree::{Node, Property, Tree};
+use std::alloc::{AllocError, Global};
+use std::collections::{BTreeMap, BTreeSet};
+
+/// The most bytes that a source has.
+const MAX_TEXT: usize = 1 << 24;
+
+/// Of more names the values are told as those of a blob.
+const MAX_NAMES: usize = 1 << 12;
+
+/// A source: its text with all that it takes in, and its blob with the paths of all labelled nodes.
+#[derive(Clone, Copy)]
+pub(crate) struct Source<'t> {
+    pub(crate) text: &'t [u8],
+    pub(crate) labelled: &'t [u8],
+}
+
+/// The labels of the node at each path.
+type Labels<'l> = BTreeMap<&'l [u8], Vec<&'l [u8]>>;
+
+/// What is known of a source.
+#[derive(Drop)]
+struct Sketch<'t> {
+    text: &'t [u8],
+    lexemes: &'t [Lexeme],
+    definitions: Definitions<'t>,
+    /// The names of properties.
+    names: BTreeMap<&'t [u8], &'t [u8]>,
+    /// The paths of the nodes, each before those below it.
+    paths: &'t [Vec<u8>],
+}
+
+fn add_paths(
+    alloc: Global,
+    paths: &mut Vec<Vec<u8>>,
+    above: &[u8],
+    node: &Node,
+) -> Result<(), AllocError> {
+    for child in node.children() {
+        let name = child.name_bytes();
+        let mut path = Vec::from_slice(alloc, above)?;
+        path.push(b'/')?;
+        path.extend_from_slice(name)?;
+        let here = Vec::from_slice(alloc, path.as_slice())?;
+        paths.push(here)?;
+        add_paths(alloc, paths, path.as_slice(), child)?;
+    }
+    Ok(())
+}
+
+fn paths_of(alloc: Global, root: &Node) -> Result<Vec<Vec<u8>>, AllocError> {
+    let mut paths = Vec::new(alloc);
+    paths.push(Vec::from_slice(alloc, b"/")?)?;
+    add_paths(alloc, &mut paths, b"", root)?;
+    Ok(paths)
+}
+
+fn add_names<'t>(names: &mut BTreeSet<&'t [u8]>, node: &'t Node) -> Result<(), AllocError> {
+    for property in node.properties() {
+        names.insert(property.name.as_bytes())?;
+    }
+    for child in node.children() {
+        add_names(names, child)?;
+    }
+    Ok(())
+}
+
+// The names of all properties, or none where they are too many.
+fn names_of(alloc: Global, root: &Node) -> Result<Vec<Vec<u8>>, AllocError> {
+    let mut found = BTreeSet::new(alloc);
+    add_names(&mut found, root)?;
+    let mut names = Vec::new(alloc);
+    if found.len() > MAX_NAMES {
+        return Ok(names);
+    }
+    for name in found.iter() {
+        names.push(Vec::from_slice(alloc, *name)?)?;
+    }
+    Ok(names)
+}
+
+fn add_label<'t>(
+    alloc: Global,
+    labels: &mut Labels<'t>,
+    property: &'t Property,
+) -> Result<(), AllocError> {
+    let value = property.value.as_slice();
+    let path = value.strip_suffix(b"\0").unwrap_or(value);
+    let label = property.name.as_bytes();
+    if let Some(known) = labels.get_mut(path) {
+        return Ok(known.push(label)?);
+    }
+    let mut first = Vec::new(alloc);
+    first.push(label)?;
+    labels.insert(path, first)?;
+    Ok(())
+}
+
+// The labels of the nodes, by their paths.
+fn labels_of<'t>(alloc: Global, tree: Option<&'t Tree>) -> Result<Labels<'t>, AllocError> {
+    let mut labels = BTreeMap::new(alloc);
+    let Some(tree) = tree else {
+        return Ok(labels);
+    };
+    for child in tree.root().children() {
+        if child.name_bytes() == b"__symbols__".as_slice() {
+            for property in child.properties() {
+                add_label(alloc, &mut labels, property)?;
+            }
+        }
+    }
+    Ok(labels)
+}
+
+// The names, to be found.
+fn by_name<'t>(
+    alloc: Global,
+    names: &'t [Vec<u8>],
+) -> Result<BTreeMap<&'t [u8], &'t [u8]>, AllocError> {
+    let mut found = BTreeMap::new(alloc);
+    for name in names {
+        found.insert(name.as_slice(), name.as_slice())?;
+    }
+    Ok(found)
+}
+
+// How a value looks that nothing is known of.
+fn written_as(value: &[u8]) -> Written {
+    match form_of(value) {
+        Form::Texts => Written::Text,
+        Form::Cells => Written::Cells,
+        Form::Bytes => Written::Bytes,
+    }
+}
+
+// A value of which the source says nothing, as dtc keeps what it makes itself.
+fn unsaid<'t>(
+    alloc: Global,
+    path: &[u8],
+    property: &Property,
+) -> Result<Vec<Marker<'t>>, AllocError> {
+    let value = property.value.as_slice();
+    let written = match written_as(value) {
+        // a number that the compiler gave
+        Written::Text if property.name.as_bytes() == b"phandle".as_slice() => Written::Cells,
+        written => written,
+    };
+    let mut markers = Vec::new(alloc);
+    for at in 0..value.len() {
+        if at == 0 || begins_at(path, written, value, at) {
+            let mark = Mark::Part(written);
+            markers.push(Marker { at, mark })?;
+        }
+    }
+    Ok(markers)
+}
+
+// Whether a part begins inside of a value: texts stand each for itself, and so do the places of references in a plugin.
+fn begins_at(path: &[u8], written: Written, value: &[u8], at: usize) -> bool {
+    match written {
+        Written::Text => at > 0 && value.get(at - 1) == Some(&0),
+        Written::Cells => path.starts_with(b"/__local_fixups__/") && at % 4 == 0,
+        _ => false,
+    }
+}
+
+// A value without a part that tells how it is written is taken as one of a blob.
+fn with_part<'t>(
+    alloc: Global,
+    markers: Vec<Marker<'t>>,
+    value: &[u8],
+) -> Result<Vec<Marker<'t>>, AllocError> {
+    if markers.iter().any(|marker| marker.mark.is_part()) {
+        return Ok(markers);
+    }
+    let written = written_as(value);
+    let mut all = Vec::with_capacity(alloc, markers.len())?;
+    all.push(Marker {
+        at: 0,
+        mark: Mark::Part(written),
+    })?;
+    all.extend_from_slice(markers.as_slice())?;
+    Ok(all)
+}
+
+impl<'t> Sketch<'t> {
+    fn path(&self, node: usize) -> &'t [u8] {
+        match self.paths.get(node) {
+            Some(path) => path.as_slice(),
+            None => b"",
+        }
+    }
+
+    // The lexemes from the one behind this on.
+    fn behind(&self, lexeme: usize) -> &'t [Lexeme] {
+        let lexemes = self.lexemes;
+        lexemes.get(lexeme.saturating_add(1)..).unwrap_or(&[])
+    }
+
+    // Where a property is defined last.
+    fn definition(&self, path: &'t [u8], name: &[u8]) -> Option<usize> {
+        let name = self.names.get(name)?;
+        self.definitions.property(path, *name)
+    }
+
+    fn markers(
+        &self,
+        alloc: Global,
+        path: &'t [u8],
+        property: &Property,
+    ) -> Result<Vec<Marker<'t>>, AllocError> {
+        let value = property.value.as_slice();
+        let Some(name) = self.definition(path, property.name.as_bytes()) else {
+            return unsaid(alloc, path, property);
+        };
+        match markers_of(alloc, self.text, self.behind(name), value)? {
+            Some(markers) => with_part(alloc, markers, value),
+            None => unsaid(alloc, path, property),
+        }
+    }
+
+    // Puts the labels that stand before a lexeme.
+    fn put_labels_before(&self, layout: &mut Layout, lexeme: usize) -> Result<(), AllocError> {
+        let front = self.lexemes.get(..lexeme).unwrap_or(&[]);
+        let labels = front
+            .iter()
+            .rev()
+            .take_while(|lexeme| lexeme.kind == Kind::Label)
+            .count();
+        for label in front
+            .get(front.len().saturating_sub(labels)..)
+            .unwrap_or(&[])
+        {
+            let words = self.text.get(label.start as usize..label.end as usize);
+            layout.put(words.unwrap_or(b""))?;
+            layout.put(b" ")?;
+        }
+        Ok(())
+    }
+
+    fn put_property(
+        &self,
+        alloc: Global,
+        layout: &mut Layout,
+        path: &'t [u8],
+        property: &Property,
+    ) -> Result<(), AllocError> {
+        let name = property.name.as_bytes();
+        if let Some(lexeme) = self.definition(path, name) {
+            self.put_labels_before(layout, lexeme)?;
+        }
+        layout.put(name)?;
+        let value = property.value.as_slice();
+        if !value.is_empty() {
+            let markers = self.markers(alloc, path, property)?;
+            layout.put(b" =")?;
+            put_marked(alloc, layout, value, markers.as_slice())?;
+        }
+        layout.put(b";\n")
+    }
+}
+
+/// The text so far, and the place in the list of nodes.
+#[derive(Drop)]
+struct Printing<'s, 't, 'b, 'l> {
+    alloc: Global,
+    layout: Layout,
+    sketch: &'s Sketch<'t>,
+    labels: &'b Labels<'l>,
+    next: usize,
+}
+
+impl<'t> Printing<'_, 't, '_, '_> {
+    fn put_labels(&mut self, path: &[u8]) -> Result<(), AllocError> {
+        let Some(labels) = self.labels.get(path) else {
+            return Ok(());
+        };
+        for label in labels.iter() {
+            self.layout.put(*label)?;
+            self.layout.put(b": ")?;
+        }
+        Ok(())
+    }
+
+    fn put_properties(
+        &mut self,
+        path: &'t [u8],
+        node: &Node,
+        depth: usize,
+    ) -> Result<(), AllocError> {
+        for property in node.properties() {
+            self.layout.indent(depth)?;
+            self.sketch
+                .put_property(self.alloc, &mut self.layout, path, property)?;
+        }
+        Ok(())
+    }
+
+    // The next node of the list, with all below it.
+    fn put_node(&mut self, name: &[u8], node: &Node, depth: usize) -> Result<(), AllocError> {
+        let path = self.sketch.path(self.next);
+        self.next = self.next.saturating_add(1);
+        self.layout.indent(depth)?;
+        self.put_labels(path)?;
+        self.layout.put(name)?;
+        self.layout.put(b" {\n")?;
+        self.put_properties(path, node, depth.saturating_add(1))?;
+        for child in node.children() {
+            self.layout.put(b"\n")?;
+            self.put_node(child.name_bytes(), child, depth.saturating_add(1))?;
+        }
+        self.layout.indent(depth)?;
+        self.layout.put(b"};\n")
+    }
+}
+
+fn sketched(
+    alloc: Global,
+    tree: &Tree,
+    sketch: &Sketch<'_>,
+    labels: &Labels<'_>,
+) -> Result<Vec<u8>, AllocError> {
+    let mut layout = Layout::new(alloc, Texts::Joined);
+    layout.put_head(tree)?;
+    let mut printing = Printing {
+        alloc,
+        layout,
+        sketch,
+        labels,
+        next: 0,
+    };
+    printing.put_node(b"/", tree.root(), 0)?;
+    let Printing { layout, .. } = printing;
+    Ok(layout.into_text())
+}
+
+fn lexemes_of(alloc: Global, text: &[u8]) -> Result<Vec<Lexeme>, AllocError> {
+    if text.len() > MAX_TEXT {
+        return Ok(Vec::new(alloc));
+    }
+    let (lexemes, _) = scan_front(alloc, text, Language::Dtc)?;
+    Ok(lexemes)
+}
+
+// None where there is no such blob.
+fn tree_of(alloc: Global, blob: &[u8]) -> Result<Option<Tree>, BlobError> {
+    match read(alloc, blob) {
+        Ok(tree) => Ok(Some(tree)),
+        Err(BlobError::NoMemory) => Err(BlobError::NoMemory),
+        Err(_) => Ok(None),
+    }
+}
+
+fn sketch_of<'t>(
+    alloc: Global,
+    text: &'t [u8],
+    lexemes: &'t [Lexeme],
+    fragments: &'t [Vec<u8>],
+    names: &'t [Vec<u8>],
+    paths: &'t [Vec<u8>],
+) -> Result<Sketch<'t>, AllocError> {
+    Ok(Sketch {
+        text,
+        lexemes,
+        definitions: Definitions::of(alloc, Language::Dtc, text, lexemes, fragments, names)?,
+        names: by_name(alloc, names)?,
+        paths,
+    })
+}
+
+/// The text of the tree that a blob holds, as dtc prints the source that it was made of.
+pub(crate) fn source_text(
+    alloc: Global,
+    blob: &[u8],
+    source: Source<'_>,
+) -> Result<Vec<u8>, BlobError> {
+    let tree = read(alloc, blob)?;
+    let labelled = tree_of(alloc, source.labelled)?;
+    let lexemes = lexemes_of(alloc, source.text)?;
+    let fragments = fragment_names(alloc, lexemes.as_slice())?;
+    let names = names_of(alloc, tree.root())?;
+    let paths = paths_of(alloc, tree.root())?;
+    let sketch = sketch_of(
+        alloc,
+        source.text,
+        lexemes.as_slice(),
+        fragments.as_slice(),
+        names.as_slice(),
+        paths.as_slice(),
+    )?;
+    let labels = labels_of(alloc, labelled.as_ref())?;
+    Ok(sketched(alloc, &tree, &sketch, &labels)?)
+}
