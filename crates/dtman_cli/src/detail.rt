@@ -109,7 +109,7 @@ fn lines_of(
     diagnosis: &Diagnosis,
 ) -> Result<String, AllocError> {
     if detail == Detail::Json {
-        return json_of(alloc, fault.name, line_in(fault), diagnosis);
+        return json_of(alloc, fault.name, fault.line(), diagnosis);
     }
     let first = format!(in alloc; "{fault}")?;
     text_of(alloc, first.as_str(), diagnosis)

@@ -1,6 +1,5 @@
 //! Failures as objects of JSON.
 
-use crate::detail::line_in;
 use crate::failure::{Failure, fail};
 use crate::files::INPUT;
 use crate::running::{FILE, REFUSED};
@@ -58,7 +57,7 @@ fn at(alloc: Global, fault: Fault, location: Location) -> Diagnosis {
 
 fn of_fault(alloc: Global, fault: Fault) -> Result<String, AllocError> {
     let diagnosis = at(alloc, fault, Location::Nowhere);
-    json_of(alloc, fault.name, line_in(fault), &diagnosis)
+    json_of(alloc, fault.name, fault.line(), &diagnosis)
 }
 
 fn of_lost(alloc: Global, fault: Fault, name: &[u8]) -> Result<String, AllocError> {

@@ -1,5 +1,7 @@
 //! Refusals as objects of JSON (RFC 8259, section 7: which characters a string escapes).
 
+use crate::refused::refused_by;
+use dt_lexeme::Language;
 use dtman_diagnosis::{Diagnosis, diagnose_blob, diagnose_source, json_of};
 use std::alloc::AllocError;
 use std::process::Abort;
@@ -59,7 +61,8 @@ const ROWS: &[Row] = &[
 fn row_is_object<R: Abort + AllocGlobal>(rt: &R, row: &Row) {
     let file = b"a\"\\\tb.dts".as_slice();
     let source = row.source.as_bytes();
-    let diagnosis = diagnose_source(rt.alloc(), file, source, false, row.number);
+    let refused = refused_by(rt, Language::Profile, source, row.number);
+    let diagnosis = diagnose_source(rt.alloc(), file, source, false, refused);
     is_object(rt, row.name, row.line, diagnosis, row.object);
 }
 
