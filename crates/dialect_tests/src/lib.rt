@@ -8,6 +8,8 @@ mod engine;
 #[cfg(test)]
 mod forms;
 #[cfg(test)]
+mod printed;
+#[cfg(test)]
 mod refusals;
 #[cfg(test)]
 mod runs;
