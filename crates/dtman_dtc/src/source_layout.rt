@@ -7,7 +7,7 @@ use crate::marked_value::put_marked;
 use crate::markers::{Mark, Marker, Written, markers_of};
 use dt_blob::{BlobError, read};
 use dt_lexeme::{Kind, Language, Lexeme, scan_front};
-use dt_trace::{Definitions, fragment_names};
+use dt_trace::{Definitions, Sought, fragment_names};
 use dt_tree::{Node, Property, Tree};
 use std::alloc::{AllocError, Global};
 use std::collections::{BTreeMap, BTreeSet};
@@ -369,10 +369,11 @@ fn sketch_of<'t>(
     names: &'t [Vec<u8>],
     paths: &'t [Vec<u8>],
 ) -> Result<Sketch<'t>, AllocError> {
+    let sought = Sought { paths, names };
     Ok(Sketch {
         text,
         lexemes,
-        definitions: Definitions::of(alloc, Language::Dtc, text, lexemes, fragments, names)?,
+        definitions: Definitions::of(alloc, Language::Dtc, text, lexemes, fragments, sought)?,
         names: by_name(alloc, names)?,
         paths,
     })
