@@ -30,8 +30,10 @@ def operand(it):
     return (f"[{it.name}]" if it.optional else f"<{it.name}>") + ("..." if it.repeated else "")
 
 
+# clap marks an option that is counted.
 def option(it):
-    return f"{it.names} <{it.value}>" if it.value else it.names, it.about + (f" [default: {it.default}]" if it.default else "")
+    counted = "..." if it.repeated and not it.value else ""
+    return f"{it.names} <{it.value}>" if it.value else it.names + counted, it.about + (f" [default: {it.default}]" if it.default else "")
 
 
 def wanted(command):
