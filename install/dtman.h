@@ -58,6 +58,7 @@ struct dtman_answer {
 	uint32_t number; /* of the fault; 0 where there is none, and of the fault NoMemory */
 	size_t length;   /* bytes of the answer, in the buffer or not; 0 where refused */
 	size_t line;     /* of the text that is refused, from 1; 0 where the fault has none */
+	size_t byte;     /* of the source that is refused, from 1; 0 where the fault tells none */
 	size_t event;    /* of the schedule that is refused, from 1; 0 where the fault has none */
 };
 
@@ -65,7 +66,7 @@ struct dtman_answer {
 #define DTMAN_NONE ((uint8_t *)"")
 
 /* Which calls there are: it grows by one with each call more, and by a hundred where one changes. */
-#define DTMAN_VERSION 201
+#define DTMAN_VERSION 301
 
 /* The most bytes of a blob and of its printed source (38 above it), and of a source (17 above it). */
 #define DTMAN_MAX_BLOB 268435456
@@ -73,7 +74,7 @@ struct dtman_answer {
 
 /*
  * The blob of a source, as the C preprocessor leaves it. With `symbols` it has the paths of all labelled nodes, as the base of an overlay
- * needs it. A source with the tag /plugin/ becomes an overlay. Refused: 10 to 17 with the line, 20 to 28, 38.
+ * needs it. A source with the tag /plugin/ becomes an overlay. Refused: 10 to 17 with line and byte, 20 to 28, 38.
  */
 struct dtman_answer dtman_compile(const void *source, size_t source_length, bool symbols, uint64_t seed,
 	void *out, size_t room);
@@ -94,7 +95,7 @@ struct dtman_dtc {
 
 /*
  * The blob of a source in dtc's language, as the C preprocessor leaves it and with what it takes in by /include/ in its place. `files` are
- * those that its /incbin/ name, in the order of the text; it isn't NULL where there are none, either. Refused: 10 to 17 with the line, 10
+ * those that its /incbin/ name, in the order of the text; it isn't NULL where there are none, either. Refused: 10 to 17 with line and byte, 10
  * also at the /incbin/ whose file isn't the next; 20 to 28, 38.
  */
 struct dtman_answer dtman_compile_dtc(const void *source, size_t source_length, const struct dtman_file *files,

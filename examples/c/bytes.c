@@ -49,6 +49,8 @@ _Noreturn void refuse(const char *what, struct dtman_answer answer)
 	fprintf(stderr, "%s: error %u %s", what, answer.number, name);
 	if (answer.line)
 		fprintf(stderr, " line %zu", answer.line);
+	if (answer.byte)
+		fprintf(stderr, " byte %zu", answer.byte);
 	if (answer.event)
 		fprintf(stderr, " event %zu", answer.event);
 	fputc('\n', stderr);

@@ -39,7 +39,8 @@ static void tell(FILE *to, const char *what, struct dtman_answer answer, const u
 
 	fprintf(to, "%s: %s, %zu bytes", what, ends[answer.status], answer.length);
 	if (answer.status == DTMAN_REFUSED)
-		fprintf(to, ", %u %s, line %zu, event %zu", answer.number, dtman_name_text(answer.number, name), answer.line, answer.event);
+		fprintf(to, ", %u %s, line %zu, byte %zu, event %zu", answer.number, dtman_name_text(answer.number, name), answer.line,
+			answer.byte, answer.event);
 	fputc('\n', to);
 	if (text && answer.status == DTMAN_WRITTEN)
 		fwrite(text, 1, answer.length, to);

@@ -12,7 +12,7 @@ use Rattle.dtman_c.specs.declared.answer.Answer.{Answer}
 
 -- the handle to be filled isn't empty
 abbrev pub occupied : Answer
-occupied = record { status = 6; number = 0; length = 0; line = 0; event = 0 }
+occupied = record { status = 6; number = 0; length = 0; line = 0; byte = 0; event = 0 }
 
 -- the file says this plan
 abbrev pub IsPlanOf : List ℕ → List PlannedDevice → Type 0

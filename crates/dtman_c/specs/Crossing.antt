@@ -1,5 +1,5 @@
 -- What crosses to a caller in C: how a call ended, and what its buffer has then.
-use Rattle.std.specs.Prelude.{◌≡◌, ◌≤◌, ◌<◌, ◌++◌, ◌⊎◌, ℕ, List, length, drop, Result, Ok, Err}
+use Rattle.std.specs.Prelude.{◌≡◌, ◌≤◌, ◌<◌, ◌++◌, ◌⊎◌, ◌+◌, ℕ, List, length, drop, Result, Ok, Err}
 use Rattle.dtman_engine.specs.Fault.{FaultValue, no_memory}
 use Rattle.dtman_engine.specs.declared.fault.Position.{Position}
 use Rattle.dtman_engine.specs.declared.fault.Position.TheVariants.{Nowhere, Line, At, Event}
@@ -7,15 +7,15 @@ use Rattle.dtman_c.specs.declared.answer.Answer.{Answer}
 
 -- so many bytes are in the buffer
 abbrev pub written : ℕ → Answer
-written size = record { status = 0; number = 0; length = size; line = 0; event = 0 }
+written size = record { status = 0; number = 0; length = size; line = 0; byte = 0; event = 0 }
 
 -- so many bytes have no room in the buffer
 abbrev pub short : ℕ → Answer
-short size = record { status = 1; number = 0; length = size; line = 0; event = 0 }
+short size = record { status = 1; number = 0; length = size; line = 0; byte = 0; event = 0 }
 
 -- no fault has the number
 abbrev pub unnamed : Answer
-unnamed = record { status = 3; number = 0; length = 0; line = 0; event = 0 }
+unnamed = record { status = 3; number = 0; length = 0; line = 0; byte = 0; event = 0 }
 
 -- a line from 1, and 0 where there is none
 abbrev pub line_of : Position → ℕ
@@ -23,6 +23,13 @@ line_of Nowhere = 0
 line_of (Line line) = line
 line_of (At place) = place.line
 line_of (Event event) = 0
+
+-- a byte of a source from 1, and 0 where there is none
+abbrev pub byte_of : Position → ℕ
+byte_of Nowhere = 0
+byte_of (Line line) = 0
+byte_of (At place) = place.offset + 1
+byte_of (Event event) = 0
 
 -- an event from 1, and 0 where there is none
 abbrev pub event_of : Position → ℕ
@@ -33,7 +40,8 @@ event_of (Event event) = event
 
 -- there are no bytes, for this fault
 abbrev pub refused : FaultValue → Answer
-refused fault = record { status = 2; number = fault.number; length = 0; line = line_of fault.position; event = event_of fault.position }
+refused fault =
+    record { status = 2; number = fault.number; length = 0; line = line_of fault.position; byte = byte_of fault.position; event = event_of fault.position }
 
 -- the buffer begins with the bytes, and is behind them as it was
 abbrev pub over : List ℕ → List ℕ → List ℕ

@@ -32,6 +32,8 @@ pub struct Answer {
     pub length: usize,
     /// The fault's line of a text, from 1; 0 where it has none.
     pub line: usize,
+    /// The byte of a source that is refused, from 1; 0 where the fault tells none.
+    pub byte: usize,
     /// The fault's event of a schedule, from 1; 0 where it has none.
     pub event: usize,
 }
@@ -75,13 +77,14 @@ pub(crate) fn occupied() -> Answer
 }
 
 pub(crate) fn told(status: u32, length: usize) -> Answer
-    ensures { result ≡ record { status = status; number = 0; length = length; line = 0; event = 0 } }
+    ensures { result ≡ record { status = status; number = 0; length = length; line = 0; byte = 0; event = 0 } }
 {
     Answer {
         status,
         number: 0,
         length,
         line: 0,
+        byte: 0,
         event: 0,
     }
 }
@@ -89,17 +92,18 @@ pub(crate) fn told(status: u32, length: usize) -> Answer
 pub(crate) fn refusal(fault: &Fault) -> Answer
     ensures { result ≡ refused (fault_value fault.now) }
 {
-    let (line, event) = match fault.position {
-        Position::Nowhere => (0, 0),
-        Position::Line(line) => (line, 0),
-        Position::At(place) => (place.line, 0),
-        Position::Event(event) => (0, event),
-    };
-    Answer {
-        status: REFUSED,
+    let answer = Answer {
         number: u32::from(fault.number),
-        length: 0,
-        line,
-        event,
+        ..told(REFUSED, 0)
+    };
+    match fault.position {
+        Position::Nowhere => answer,
+        Position::Line(line) => Answer { line, ..answer },
+        Position::At(place) => Answer {
+            line: place.line,
+            byte: place.offset as usize + 1,
+            ..answer
+        },
+        Position::Event(event) => Answer { event, ..answer },
     }
 }
