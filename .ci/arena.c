@@ -3,8 +3,8 @@
  *
  * Takes blocks, makes them longer and shorter and gives them back, in arenas of each length and alignment, and holds what stands in them
  * against a copy. Blocks have to be aligned, apart, inside of the arena and outside of what marks them; all of it is free at the end. Then an
- * overlay is made and applied over arenas of each length, from none on: the answer is 0 NoMemory or that of an ample one, and whatever it
- * is, all is free behind it.
+ * overlay is made and applied over arenas of each length, from none on, and of twice the length as long as memory lacks: the answer is
+ * 0 NoMemory or that of an ample one, and whatever it is, all is free behind it.
  */
 #include <stdio.h>
 #include <stdlib.h>
@@ -221,6 +221,9 @@ static void try_overlays(size_t stride)
 		least = least ? least : length;
 	}
 	check(least > 0, "no arena was enough");
+	for (length = 1; (answer = overlaid(length, both, sizeof both)).status == DTMAN_REFUSED; length *= 2)
+		check(answer.number == 0 && length < 1 << 20, "twice as much again and again is never enough");
+	check(answer.length == ample.length && !memcmp(both, wanted, ample.length), "another blob where the arena was doubled");
 	check(overlaid(length, both, 9).status == DTMAN_SHORT, "a short buffer isn't told");
 }
 

@@ -34,6 +34,7 @@ reserved: 0x1000000 bytes at 0x9f000000
 memory: 0x40000000 bytes at 0x80000000
 reserved: 0x10000 bytes at 0x80000000
 reserved: 0x1000000 bytes at 0x9f000000
+reserved: 0x400000 bytes at 0x88000000
 arguments: root=/dev/nvme0n1p1 "two words"
 END
 while read -r line; do grep -qxF "$line" examples/c/README.md || fail "examples/c/README.md shows another output of boot"; done <"$work/said"
@@ -48,7 +49,9 @@ cat >"$work/setting.dts" <<'END'
 &{/memory@80000000} { reg = <0 0x80000000 0 0x40000000>; };
 END
 bin/dtman compile "$work/setting.dts" "$work/setting.dtb"
-bin/dtman overlay "$work/overlaid.dtb" "$work/setting.dtb" "$work/booted.dtb"
+bin/dtman overlay "$work/overlaid.dtb" "$work/setting.dtb" "$work/set.dtb"
+# No overlay reserves memory: that of the initial file system is put into the source.
+bin/dtman dump "$work/set.dtb" | sed '/^\/ {$/i /memreserve/ 0x88000000 0x400000;' | bin/dtman compile - "$work/booted.dtb"
 
 # same_board BLOB WHAT: whether the blob holds the board that boots
 same_board() {

@@ -186,6 +186,7 @@ LINES = """
 0 compile dtc.dts OUT --dtc
 0 overlay base.dtb overlay.dtb OUT
 0 dump clock.dtb
+0 dump base.dtb --labels
 0 plan clock.dtb drivers
 0 plan clock.dtb drivers --dot
 0 plan clock.dtb drivers --html --of /clk --links linux

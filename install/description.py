@@ -124,10 +124,12 @@ COMMANDS = (
         "dump",
         "Prints a blob as a canonical source",
         (Operand("IN", "blob", "The blob"),),
-        (),
+        (Option("--labels", "With labels, where the blob has __symbols__"),),
         (
             "Prints a blob as a canonical source: the same tree always gives the same text, so that two boards can be compared by `diff`."
             " Compiled again, the text gives the same tree. The number of the processor that boots isn't in a source.",
+            "With --labels the labels of the blob's `__symbols__` stand before their nodes, and name these in place of phandles and in aliases."
+            " That text, too, compiles to the same tree; where it wouldn't, it is the canonical one.",
         ),
         (("What an overlay changed", "dtman dump board.dtb >before; dtman dump both.dtb | diff before -"),),
         "30 to 38",

@@ -74,7 +74,7 @@ struct dtman_answer {
 
 /*
  * The blob of a source, as the C preprocessor leaves it. With `symbols` it has the paths of all labelled nodes, as the base of an overlay
- * needs it. A source with the tag /plugin/ becomes an overlay. Refused: 10 to 17 with line and byte, 20 to 28, 38.
+ * needs it. A source with the tag /plugin/ becomes an overlay. Refused: 10 to 28 with line and byte, 38.
  */
 struct dtman_answer dtman_compile(const void *source, size_t source_length, bool symbols, uint64_t seed,
 	void *out, size_t room);
@@ -95,8 +95,8 @@ struct dtman_dtc {
 
 /*
  * The blob of a source in dtc's language, as the C preprocessor leaves it and with what it takes in by /include/ in its place. `files` are
- * those that its /incbin/ name, in the order of the text; it isn't NULL where there are none, either. Refused: 10 to 17 with line and byte, 10
- * also at the /incbin/ whose file isn't the next; 20 to 28, 38.
+ * those that its /incbin/ name, in the order of the text; it isn't NULL where there are none, either. Refused: 10 to 28 with line and byte, 10
+ * also at the /incbin/ whose file isn't the next; 38.
  */
 struct dtman_answer dtman_compile_dtc(const void *source, size_t source_length, const struct dtman_file *files,
 	size_t files_count, const struct dtman_dtc *choice, uint64_t seed, void *out, size_t room);

@@ -5,9 +5,23 @@
  *
  * The arena. Its bytes are the caller's, of any alignment, and in the library's hands until another arena is given or the last call is
  * made: nobody else reads or writes them, and no input and no buffer of a call overlaps them. Each call gives all that it took back when it
- * returns, but for what stands behind a board's seats: no other arena is given while a seat is filled. An overlay of a board of
- * Linux took 16 times base and overlay at most, and an arena of 24 times was enough for each; a source took 19 times its text. A call that
- * wants more than there is is refused with the number 0, and all else is as it was; what was enough is enough again.
+ * returns, but for what stands behind a board's seats: no other arena is given while a seat is filled. A call that wants more than there is
+ * is refused with the number 0, and all else is as it was; what was enough is enough again.
+ *
+ * How much. An overlay of a board of Linux took 16 times base and overlay at most, and an arena of 24 times was enough for each; a source
+ * took 19 times its text. How much is enough is known only by trying, so who can give more gives twice as much as long as memory lacks:
+ *
+ *	size_t length = 24 * (base_length + overlay_length) + (64 << 10);
+ *	struct dtman_answer answer;
+ *
+ *	for (;; length *= 2) {
+ *		dtman_use_arena(arena, length < most ? length : most);
+ *		answer = dtman_overlay(base, base_length, overlay, overlay_length, seed, out, room);
+ *		if (answer.status != DTMAN_REFUSED || answer.number || length >= most)
+ *			break;
+ *	}
+ *
+ * Who has no more to give gives all at once. examples/c/overlay.c does the former.
  *
  * Threads. There is one arena, so one call at a time is in the library, in all of the program: no other thread and no interrupt makes one
  * meanwhile. In all else the rules of dtman.h stand.

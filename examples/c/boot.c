@@ -2,8 +2,8 @@
  * A boot loader's step: boot BLOB BYTES ARGUMENTS START SIZE OUT
  *
  * In a buffer with some room: finds the board's memory, makes its first region one of BYTES, tells the kernel its ARGUMENTS and where the
- * initial file system stands, and writes the blob. All of it in place and without memory of its own, by libdtman_view.a alone; boot_libfdt.c
- * is the same by libfdt.
+ * initial file system stands, keeps the kernel out of that by reserving it, and writes the blob. All of it in place and without memory of its
+ * own, by libdtman_view.a alone; boot_libfdt.c is the same by libfdt.
  */
 #include <stdio.h>
 #include <stdlib.h>
@@ -129,6 +129,14 @@ static void set_double(const char *name, uint64_t number)
 	set("/chosen", name, value, put_number(value, 2, number));
 }
 
+/* Where the initial file system stands, and that nothing else may stand there. */
+static void set_initial_files(uint64_t start, uint64_t size)
+{
+	set_double("linux,initrd-start", start);
+	set_double("linux,initrd-end", start + size);
+	checked("reserve", dtman_edit_reserve(buffer, sizeof buffer, start, size));
+}
+
 static void print_arguments(void)
 {
 	struct dtman_view view = opened(sizeof buffer);
@@ -141,8 +149,6 @@ static void print_arguments(void)
 
 int main(int count, char **words)
 {
-	uint64_t start;
-
 	if (count != 7) {
 		fprintf(stderr, "usage: boot BLOB BYTES ARGUMENTS START SIZE OUT\n");
 		return 2;
@@ -151,9 +157,7 @@ int main(int count, char **words)
 	print_memory();
 	set_memory(strtoull(words[2], NULL, 0));
 	set("/chosen", "bootargs", words[3], strlen(words[3]) + 1);
-	start = strtoull(words[4], NULL, 0);
-	set_double("linux,initrd-start", start);
-	set_double("linux,initrd-end", start + strtoull(words[5], NULL, 0));
+	set_initial_files(strtoull(words[4], NULL, 0), strtoull(words[5], NULL, 0));
 	print_memory();
 	print_arguments();
 	write_blob(words[6]);

@@ -81,9 +81,15 @@ static void set_memory(uint64_t size)
 	checked("reg", fdt_appendprop_addrrange(buffer, 0, memory, "reg", address, size));
 }
 
+static void set_initial_files(int chosen, uint64_t start, uint64_t size)
+{
+	checked("start", fdt_setprop_u64(buffer, chosen, "linux,initrd-start", start));
+	checked("end", fdt_setprop_u64(buffer, chosen, "linux,initrd-end", start + size));
+	checked("reserve", fdt_add_mem_rsv(buffer, start, size));
+}
+
 int main(int count, char **words)
 {
-	uint64_t start;
 	int chosen;
 
 	if (count != 7) {
@@ -95,9 +101,7 @@ int main(int count, char **words)
 	set_memory(strtoull(words[2], NULL, 0));
 	chosen = checked("/chosen", fdt_path_offset(buffer, "/chosen"));
 	checked("bootargs", fdt_setprop_string(buffer, chosen, "bootargs", words[3]));
-	start = strtoull(words[4], NULL, 0);
-	checked("start", fdt_setprop_u64(buffer, chosen, "linux,initrd-start", start));
-	checked("end", fdt_setprop_u64(buffer, chosen, "linux,initrd-end", start + strtoull(words[5], NULL, 0)));
+	set_initial_files(chosen, strtoull(words[4], NULL, 0), strtoull(words[5], NULL, 0));
 	print_memory();
 	printf("arguments: %s\n", (const char *)fdt_getprop(buffer, chosen, "bootargs", NULL));
 	write_blob(words[6]);

@@ -20,6 +20,7 @@ static const char board[] = "/dts-v1/;\n"
 			    "\tuart: serial { compatible = \"ns16550a\"; clocks = <&clk>; };\n"
 			    "};\n";
 static const char unlawful[] = "/dts-v1/;\n/ {\n\ta = <(1 / 0)>;\n};\n";
+static const char unlabelled[] = "/dts-v1/;\n/ {\n\tr = <&nix>;\n};\n";
 static const char hat[] = "/dts-v1/;\n/plugin/;\n&uart { status = \"okay\"; };\n";
 static const char dtc_source[] = "/dts-v1/;\n"
 				 "/ {\n"
@@ -149,6 +150,7 @@ static void make_calls(FILE *to)
 	b = dtman_compile(BYTES(board), true, SEED, base, b.length);
 	tell(to, "compile, that much room", b, NULL);
 	tell(to, "compile, a division by zero", dtman_compile(BYTES(unlawful), false, SEED, text, ROOM), NULL);
+	tell(to, "compile, no such label", dtman_compile(BYTES(unlabelled), false, SEED, text, ROOM), NULL);
 	nest((char *)text);
 	tell(to, "compile, sixty deep", dtman_compile(text, strlen((char *)text), false, SEED, both, ROOM), NULL);
 

@@ -1,8 +1,9 @@
 /*
  * Overlays applied before there is a heap: overlay BASE OVERLAY.. OUT
  *
- * The library's memory is an arena in static storage (libdtman_arena.a). Each overlay is applied to what the one before it left, from one
- * of two buffers into the other; then the blob is written, and what was taken of the arena is printed.
+ * The library's memory is an arena in static storage (libdtman_arena.a), of which a call gets twice as much as long as memory lacks. Each
+ * overlay is applied to what the one before it left, from one of two buffers into the other; then the blob is written, and what was taken of
+ * the arena is printed.
  */
 #include <stdio.h>
 #include <stdlib.h>
@@ -17,6 +18,24 @@
 
 static uint8_t arena[16 << 20], buffers[2][ROOM];
 
+static size_t most_taken;
+
+/* 24 times base and overlay are enough for a board of Linux; all of the arena is the last that is tried. */
+static struct dtman_answer apply(struct bytes base, struct bytes overlay, uint8_t *out)
+{
+	size_t length = 24 * (base.length + overlay.length) + (64 << 10), taken;
+	struct dtman_answer answer;
+
+	for (;; length *= 2) {
+		dtman_use_arena(arena, length < sizeof arena ? length : sizeof arena);
+		answer = dtman_overlay(base.at, base.length, overlay.at, overlay.length, SEED, out, ROOM);
+		taken = dtman_arena_used().most;
+		most_taken = most_taken < taken ? taken : most_taken;
+		if (answer.status != DTMAN_REFUSED || answer.number || length >= sizeof arena)
+			return answer;
+	}
+}
+
 int main(int count, char **words)
 {
 	struct bytes blob;
@@ -25,12 +44,11 @@ int main(int count, char **words)
 		fprintf(stderr, "usage: overlay BASE OVERLAY.. OUT\n");
 		return 2;
 	}
-	dtman_use_arena(arena, sizeof arena);
 	blob = read_file(words[1]);
 	for (int i = 2; i < count - 1; i++) {
 		struct bytes overlay = read_file(words[i]);
 		uint8_t *out = buffers[i % 2];
-		struct dtman_answer answer = dtman_overlay(blob.at, blob.length, overlay.at, overlay.length, SEED, out, ROOM);
+		struct dtman_answer answer = apply(blob, overlay, out);
 
 		free(overlay.at);
 		if (answer.status == DTMAN_SHORT)
@@ -44,6 +62,6 @@ int main(int count, char **words)
 		blob = (struct bytes){ out, answer.length };
 	}
 	write_file(words[count - 1], blob);
-	printf("%zu bytes at most were taken of the arena\n", dtman_arena_used().most);
+	printf("%zu bytes at most were taken of the arena\n", most_taken);
 	return 0;
 }

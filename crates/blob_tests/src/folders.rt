@@ -2,8 +2,8 @@
 
 use dt_include::Binary;
 use dtman_dtc::{
-    Compilation, Compiler, Entry, EntryKind, Fault, Host, Texts, Unread, Unwritten, layout_bytes,
-    run_dtc,
+    Compilation, Compiled, Compiler, Entry, EntryKind, Fault, Host, Texts, Unread, Unwritten,
+    layout_bytes, run_dtc,
 };
 use std::alloc::Global;
 use std::hash::RandomState;
@@ -182,7 +182,7 @@ impl Compiler for Printer {
         _text: &[u8],
         _binaries: Vec<Binary>,
         _compilation: Compilation,
-    ) -> Result<Vec<u8>, Fault> {
+    ) -> Result<Compiled, Fault> {
         refused()
     }
 

@@ -8,9 +8,10 @@ ghost use Rattle.bus_drivers.specs.Private.Planning.{planned_at};
 use crate::driver_set::DriverSet;
 use crate::matching::Matcher;
 use crate::phandle_index::PhandleIndex;
+use crate::plan_fault::PlanFault;
 use crate::suppliers::suppliers_of;
 use crate::tree_device::TreeDevice;
-use bus_plan::{Device, Plan, PlanError, Planned};
+use bus_plan::{Device, Plan, Planned};
 use dt_tree::Tree;
 use std::alloc::Global;
 use std::hash::RandomState;
@@ -22,7 +23,7 @@ fn planned_device(
     matcher: &Matcher<'_>,
     place: Device,
     device: &TreeDevice<'_>,
-) -> Result<Planned, PlanError>
+) -> Result<Planned, PlanFault>
     ensures { Answers (planned_at (target_of phandle_index.now) matcher.now place device.now) result }
 {
     let properties = device.node().properties();
@@ -35,7 +36,7 @@ fn planned_devices(
     hasher: RandomState,
     phandle_index: &PhandleIndex<'_>,
     matcher: &Matcher<'_>,
-) -> Result<Vec<Planned>, PlanError>
+) -> Result<Vec<Planned>, PlanFault>
     ensures { let planned = planned_from (target_of phandle_index.now) matcher.now 0 (tree_devices phandle_index.now) in
         MatchResult result (λ devices. planned ≡ Ok devices.items) (λ e. (e ≡ NoMemory) ⊎ (planned ≡ Err e)) }
 {
@@ -60,7 +61,7 @@ fn matched_devices(
     hasher: RandomState,
     phandle_index: &PhandleIndex<'_>,
     matcher: &Matcher<'_>,
-) -> Result<Vec<Planned>, PlanError>
+) -> Result<Vec<Planned>, PlanFault>
     ensures { let planned = plan_of_tree phandle_index.now matcher.now in
         MatchResult result (λ devices. planned ≡ Ok devices.items) (λ e. (e ≡ NoMemory) ⊎ (planned ≡ Err e)) }
 {
@@ -73,7 +74,7 @@ fn plan_devices(
     hasher: RandomState,
     phandle_index: &PhandleIndex<'_>,
     drivers: &DriverSet,
-) -> Result<Vec<Planned>, PlanError>
+) -> Result<Vec<Planned>, PlanFault>
     ensures { let planned = plan_of_tree phandle_index.now drivers.now in
         MatchResult result (λ devices. planned ≡ Ok devices.items) (λ e. (e ≡ NoMemory) ⊎ (planned ≡ Err e)) }
 {
@@ -87,7 +88,7 @@ fn devices_of(
     hasher: RandomState,
     tree: &Tree,
     drivers: &DriverSet,
-) -> Result<Vec<Planned>, PlanError>
+) -> Result<Vec<Planned>, PlanFault>
     ensures { let plan = plan_of tree.now.root drivers.now in
         MatchResult result (λ devices. plan ≡ Ok devices.items) (λ e. (e ≡ NoMemory) ⊎ (plan ≡ Err e)) }
 {
@@ -101,7 +102,7 @@ pub fn plan(
     hasher: RandomState,
     tree: &Tree,
     drivers: &DriverSet,
-) -> Result<Plan, PlanError>
+) -> Result<Plan, PlanFault>
     ensures { Answers (plan_of tree.now.root drivers.now) result }
 {
     tree.check();

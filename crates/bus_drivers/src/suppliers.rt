@@ -8,6 +8,7 @@ ghost use Rattle.bus_drivers.specs.Private.Suppliers.{with_mention, IsAdded};
 ghost use Rattle.bus_drivers.specs.SupplierForm.{form_data};
 
 use crate::phandle_index::PhandleIndex;
+use crate::plan_fault::{Culprit, Entry, NO_ENTRY, PlanFault};
 use crate::reference::Reference;
 use crate::supplier_table::Form;
 use bus_plan::{Device, PlanError};
@@ -66,50 +67,72 @@ impl Suppliers {
         Ok(())
     }
 
-    /// Adds what a value refers to.
+    // A refusal of this device's property at a place.
+    fn refused(&self, error: PlanError, property: usize, entry: Option<Entry>) -> PlanFault
+        ensures { result ≡ error }
+    {
+        let device = self.own;
+        PlanFault::of(
+            error,
+            Culprit {
+                device,
+                property,
+                entry,
+            },
+        )
+    }
+
+    /// Adds what a value refers to, that of the device's property at this place.
     fn add_value(
         &mut self,
         phandle_index: &PhandleIndex<'_>,
+        place: usize,
         form: Form,
         value: &[u8],
-    ) -> Result<(), PlanError>
+    ) -> Result<(), PlanFault>
         ensures { IsAdded (references (target_of phandle_index.now) (form_data form) value.now)
             self.old result self.new }
     {
         if !form.is_length(value.len()) {
-            return Err(PlanError::BadSpecifier);
+            return Err(self.refused(PlanError::BadSpecifier, place, None));
         }
         let mut rest = value;
         let mut left: u32 = 0;
+        let mut entry = NO_ENTRY;
         while let Some((cell, behind)) = next_cell(rest) {
             rest = behind;
             if left > 0 {
                 left -= 1;
                 continue;
             }
-            let reference = Reference::of(phandle_index, form, cell)?;
+            entry = entry.next(value.len(), behind.len());
+            let reference = match Reference::of(phandle_index, form, cell) {
+                Ok(reference) => reference,
+                Err(error) => return Err(self.refused(error, place, Some(entry))),
+            };
             if let Some(device) = reference.device {
                 self.add(device)?;
             }
             left = reference.cells;
         }
         if left > 0 {
-            return Err(PlanError::BadSpecifier);
+            return Err(self.refused(PlanError::BadSpecifier, place, Some(entry)));
         }
         Ok(())
     }
 
-    /// Adds what a property refers to: nothing, where the table doesn't have it.
+    /// Adds what the device's property at this place refers to: nothing, where the table doesn't have it.
     fn add_property(
         &mut self,
         phandle_index: &PhandleIndex<'_>,
+        place: usize,
         property: &Property,
-    ) -> Result<(), PlanError>
+    ) -> Result<(), PlanFault>
         ensures { IsAdded (property_references (target_of phandle_index.now) property.now) self.old result self.new }
     {
         match Form::of(property.name.as_bytes()) {
             None => Ok(()),
-            Some(form) => self.add_value(phandle_index, form, property.value.as_slice()),
+            Some(form) => self.add_value(phandle_index, place, form, property.value.as_slice()),
         }
     }
 
@@ -117,11 +140,11 @@ impl Suppliers {
         &mut self,
         phandle_index: &PhandleIndex<'_>,
         properties: &[Property],
-    ) -> Result<(), PlanError>
+    ) -> Result<(), PlanFault>
         ensures { IsAdded (all_references (target_of phandle_index.now) properties.now) self.old result self.new }
     {
-        for property in properties {
-            self.add_property(phandle_index, property)?;
+        for (place, property) in properties.iter().enumerate() {
+            self.add_property(phandle_index, place, property)?;
         }
         Ok(())
     }
@@ -144,7 +167,7 @@ fn all_of(
     phandle_index: &PhandleIndex<'_>,
     suppliers: &mut Suppliers,
     properties: &[Property],
-) -> Result<Vec<Device>, PlanError>
+) -> Result<Vec<Device>, PlanFault>
     requires { suppliers.old.found ≡ [] }
     ensures { let mentioned = all_references (target_of phandle_index.now) properties.now in
         MatchResult result
@@ -162,7 +185,7 @@ pub fn suppliers_of(
     phandle_index: &PhandleIndex<'_>,
     own: Device,
     properties: &[Property],
-) -> Result<Vec<Device>, PlanError>
+) -> Result<Vec<Device>, PlanFault>
     ensures { let mentioned = all_references (target_of phandle_index.now) properties.now in
         MatchResult result
         (λ suppliers. then_do mentioned (λ ds. Ok (suppliers_among own ds)) ≡ Ok suppliers.items)

@@ -5,7 +5,9 @@ use crate::links::LINKS;
 use crate::nodes::NODES;
 use dt_build::build;
 use dt_check::{Message, Survey};
-use dt_check_table::{Finding, Kind, Least, Reference, Selection, check_at, run_checks};
+use dt_check_table::{
+    Finding, Kind, Least, Reference, Report, Selection, Subject, check_at, run_checks,
+};
 use dt_lexeme::Language;
 use dt_source::parse;
 use dt_tree::Tree;
@@ -55,6 +57,32 @@ fn put_place(
     }
 }
 
+// A tree that is no source's.
+fn subject_of<'a, 't>(
+    alloc: Global,
+    survey: &'a Survey<'t>,
+    reference: &'a Reference<'a>,
+) -> Subject<'a, 't> {
+    Subject {
+        alloc,
+        survey,
+        written: None,
+        reference,
+    }
+}
+
+/// What the checks tell of a tree.
+fn report_of<'t>(
+    rt: &impl Abort,
+    alloc: Global,
+    survey: &Survey<'t>,
+    reference: &Reference<'_>,
+    selection: &Selection,
+) -> Report<'t> {
+    let subject = subject_of(alloc, survey, reference);
+    run_checks(subject, selection, Least::Warning).expect(rt, "memory")
+}
+
 /// Where a check tells something of a tree.
 fn places(
     rt: &impl Abort,
@@ -68,9 +96,7 @@ fn places(
     assert!(rt; known, "{check}");
     let survey = Survey::of(alloc, hasher, tree).expect(rt, "memory");
     let reference = Reference::new(alloc);
-    let report = run_checks(alloc, &survey, &reference, &selection, Least::Warning).expect(
-        rt, "memory",
-    );
+    let report = report_of(rt, alloc, &survey, &reference, &selection);
     let mut text = Vec::new(alloc);
     for finding in &report.findings {
         if name_of(finding.check) == check {

@@ -14,6 +14,8 @@ mod nodes;
 #[cfg(test)]
 mod own;
 #[cfg(test)]
+mod references;
+#[cfg(test)]
 mod spots;
 #[cfg(test)]
 mod standing;

@@ -117,7 +117,7 @@ fn answer(rt: &impl Abort, alloc: Global, hasher: RandomState, row: &Row) -> Ans
     let reference = Reference::new(alloc);
     let lines = Lines {
         file: b"x",
-        text: b"",
+        source: None,
         shape: row.shape,
         quiet: row.quiet,
     };

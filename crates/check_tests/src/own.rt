@@ -56,7 +56,7 @@ fn answer(rt: &impl Abort, alloc: Global, hasher: RandomState, properties: &str)
     selection.ask_unknown(Kind::Warning).expect(rt, "memory");
     let lines = Lines {
         file: b"x",
-        text: b"",
+        source: None,
         shape: Shape::Plain,
         quiet: 0,
     };

@@ -1,14 +1,17 @@
 //! Places of findings in the user's files: lines as dtc 1.6.1 tells them, columns of the name alone.
 
 use crate::telling::{Lines, told};
-use dt_build::build;
+use dt_build::{Built, build_dtc_within};
 use dt_check_table::{Kind, Reference, Selection};
 use dt_lexeme::Language;
 use dt_source::parse;
-use dtman_check::{Answer, Shape};
+use dtman_check::{Answer, Shape, Source};
 use std::alloc::Global;
 use std::hash::RandomState;
 use std::process::Abort;
+
+/// No source here makes a longer blob.
+const MAX_BLOB_LEN: usize = 4096;
 
 // Definitions by an extension, in another file by a line marker, and a property in two of them.
 const TEXT: &str = "/dts-v1/;\n\
@@ -63,8 +66,9 @@ const ROWS: &[Row] = &[
 ];
 
 fn answer(rt: &impl Abort, alloc: Global, hasher: RandomState, row: &Row) -> Answer {
-    let source = parse(alloc, TEXT.as_bytes(), Language::Profile).expect(rt, "a source");
-    let tree = build(alloc, hasher, &source, false).expect(rt, "a tree");
+    let source = parse(alloc, TEXT.as_bytes(), Language::Dtc).expect(rt, "a source");
+    let built = build_dtc_within(alloc, hasher, &source, false, MAX_BLOB_LEN).expect(rt, "a tree");
+    let Built { tree, places } = built.expect(rt, "a short one");
     let mut selection = Selection::usual(alloc).expect(rt, "memory");
     for word in row.without {
         let known = selection.apply(Kind::Warning, *word).expect(rt, "memory");
@@ -73,7 +77,10 @@ fn answer(rt: &impl Abort, alloc: Global, hasher: RandomState, row: &Row) -> Ans
     let reference = Reference::new(alloc);
     let lines = Lines {
         file: b"x.dts",
-        text: TEXT.as_bytes(),
+        source: Some(Source {
+            text: TEXT.as_bytes(),
+            places: &places,
+        }),
         shape: row.shape,
         quiet: 0,
     };

@@ -1,4 +1,4 @@
-//! What checks stand on: `made_before` of each is what its prerequisites take, and theirs, each once.
+//! What checks stand on: `made_before` of each is what its prerequisites take, and theirs, each once, and before it in the table.
 
 use dt_check_table::{CHECK_COUNT, Check, check_at};
 use std::process::Abort;
@@ -30,7 +30,7 @@ fn is_whole(rt: &impl Abort, place: usize) {
     for (index, other) in made_before.iter().enumerate() {
         let before = made_before.get(..index).unwrap_or(&[]);
         assert!(rt;
-            !is_among(before, *other) && *other != place,
+            !is_among(before, *other) && *other < place,
             "{name} {other}"
         );
         for needed in check(rt, *other).prerequisites {

@@ -2,16 +2,16 @@
 
 use dt_check_table::{Reference, Selection};
 use dt_tree::Tree;
-use dtman_check::{Answer, Asked, Shape, check_tree};
+use dtman_check::{Answer, Asked, Shape, Source, check_tree};
 use std::alloc::Global;
 use std::hash::RandomState;
 use std::process::Abort;
 
-/// The file and the text that lines name, and their shape.
+/// The file that lines name, the source that their places are in, and their shape.
 #[derive(Clone, Copy)]
 pub struct Lines<'a> {
     pub file: &'a [u8],
-    pub text: &'a [u8],
+    pub source: Option<Source<'a>>,
     pub shape: Shape,
     pub quiet: usize,
 }
@@ -28,7 +28,7 @@ pub fn told(
 ) -> Answer {
     let asked = Asked {
         file: lines.file,
-        text: lines.text,
+        source: lines.source,
         reference,
         shape: lines.shape,
         quiet: lines.quiet,

@@ -13,3 +13,5 @@ mod printed;
 mod refusals;
 #[cfg(test)]
 mod runs;
+#[cfg(test)]
+mod several;

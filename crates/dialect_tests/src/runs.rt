@@ -2,7 +2,9 @@
 
 use crate::desk::Desk;
 use dt_include::{Binary, Span};
-use dtman_dtc::{Compilation, Compiler, Fault, Texts, run_dtc, run_fdtoverlay};
+use dt_making::Places;
+use dt_tree::{Node, Tree};
+use dtman_dtc::{Compilation, Compiled, Compiler, Fault, Texts, run_dtc, run_fdtoverlay};
 use std::alloc::Global;
 use std::hash::RandomState;
 use std::process::Abort;
@@ -33,6 +35,24 @@ fn place_of(text: &[u8], words: &[u8]) -> Option<usize> {
     None
 }
 
+// Bytes in the place of a blob, with a tree of no nodes.
+fn with_nothing(alloc: Global, blob: Vec<u8>) -> Result<Compiled, Fault> {
+    let Ok(root) = Node::new(alloc, None, Vec::new(alloc), Vec::new(alloc)) else {
+        return refused();
+    };
+    let Ok(tree) = Tree::new(Vec::new(alloc), 0, root) else {
+        return refused();
+    };
+    let places = Places {
+        nodes: Vec::new(alloc),
+        starts: Vec::new(alloc),
+        properties: Vec::new(alloc),
+        reference_starts: Vec::new(alloc),
+        references: Vec::new(alloc),
+    };
+    Ok(Compiled { blob, tree, places })
+}
+
 impl Compiler for Copier {
     fn compile(
         &mut self,
@@ -41,7 +61,7 @@ impl Compiler for Copier {
         text: &[u8],
         binaries: Vec<Binary>,
         _compilation: Compilation,
-    ) -> Result<Vec<u8>, Fault> {
+    ) -> Result<Compiled, Fault> {
         if let Some(start) = place_of(text, b"&unknown") {
             return Err(Fault {
                 number: 20,
@@ -57,7 +77,7 @@ impl Compiler for Copier {
         for binary in &binaries {
             blob = joined(alloc, blob.as_slice(), binary.bytes.as_slice())?;
         }
-        Ok(blob)
+        with_nothing(alloc, blob)
     }
 
     fn dump(&mut self, alloc: Global, blob: &[u8], _texts: Texts) -> Result<Vec<u8>, Fault> {

@@ -71,8 +71,8 @@ module _ (symbols : Bool) (source : Source) (es : List (Definition (List Found))
     trees = λ b sound same. lists-within symbols p (prepared-ready lawful) prepared-free fits b sound same;
   }
 
-  refused : (e : BuildError) → IsFault e (shallow (lists symbols p)) → Refuses symbols (meaning_of source) e
-  refused e fault = fault-same e (shallow (lists symbols p)) (resolved symbols (meaning_of source)) (prepared-site_list symbols (meaning_of source) es from is added same) fault
+  refused : (e : BuildError) → IsFault e.kind (shallow (lists symbols p)) → Refuses symbols (meaning_of source) e
+  refused e fault = fault-same e.kind (shallow (lists symbols p)) (resolved symbols (meaning_of source)) (prepared-site_list symbols (meaning_of source) es from is added same) fault
 
   pub builds : IsLawful (meaning_of source) → (limit : ℕ) (result : Result (Option TreeData) BuildError) → MakesTree symbols (meaning_of source) p limit result → Builds symbols (meaning_of source) limit result
   builds lawful limit (Ok tree) h = built lawful h.0 limit tree h.1

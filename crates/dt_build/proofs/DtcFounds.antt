@@ -100,12 +100,12 @@ is_kept e = not (repeats_name e)
 module _ (d : LiveTree Parts) where
   pub repeats-same : (x : NodeProperty Parts) (ts : List (Option ℕ)) → repeats_name (found_property (node_path d) x ts) ≡ repeats d x
   repeats-same x ts =
-      ap (λ b. bytes_eq x.name.now (codes "name") && b) (string-same (node_path d) (before_first (λ c. c == 64) (last_name (node_path d x.node))) x.value.now ts [])
+      ap (λ b. bytes_eq x.name.now (codes "name") && b) (string-same (node_path d) (before_first (λ c. c == 64) (last_name (node_path d x.node))) x.value.now.parts.items ts [])
 
-  repeats-bare : (x : NodeProperty Parts) → repeats d x ≡ true → all_uses x.value.now ≡ 0
+  repeats-bare : (x : NodeProperty Parts) → repeats d x ≡ true → all_uses x.value.now.parts.items ≡ 0
   repeats-bare x is =
-      string-bare (node_path d) (before_first (λ c. c == 64) (last_name (node_path d x.node))) x.value.now []
-      (and_parts (bytes_eq x.name.now (codes "name")) (is_string_of (before_first (λ c. c == 64) (last_name (node_path d x.node))) (founds_of (node_path d) x.value.now [])) is).1
+      string-bare (node_path d) (before_first (λ c. c == 64) (last_name (node_path d x.node))) x.value.now.parts.items []
+      (and_parts (bytes_eq x.name.now (codes "name")) (is_string_of (before_first (λ c. c == 64) (last_name (node_path d x.node))) (founds_of (node_path d) x.value.now.parts.items [])) is).1
 
   -- the targets of the others stay where they are
   pub kept-founds : (xs : List (NodeProperty Parts)) (ts : List (Option ℕ)) → found_properties (node_path d) (kept_properties d xs) ts ≡ filter is_kept (found_properties (node_path d) xs ts)
@@ -113,13 +113,13 @@ module _ (d : LiveTree Parts) where
   kept-founds (x ∷ xs) ts = by (λ us. kept-founds xs us) (repeats d x) refl where
     by : ((us : List (Option ℕ)) → found_properties (node_path d) (kept_properties d xs) us ≡ filter is_kept (found_properties (node_path d) xs us)) → (b : Bool) → repeats d x ≡ b
         → found_properties (node_path d) (if not b then x ∷ kept_properties d xs else kept_properties d xs) ts
-        ≡ filter is_kept (found_property (node_path d) x ts ∷ found_properties (node_path d) xs (drop (all_uses x.value.now) ts))
+        ≡ filter is_kept (found_property (node_path d) x ts ∷ found_properties (node_path d) xs (drop (all_uses x.value.now.parts.items) ts))
     by so true is =
         so ts ∙ ap (λ k. filter is_kept (found_properties (node_path d) xs (drop k ts))) (sym (repeats-bare x is))
-        ∙ sym (kept-by is_kept (found_property (node_path d) x ts) (found_properties (node_path d) xs (drop (all_uses x.value.now) ts)) false (ap not (repeats-same x ts ∙ is)))
+        ∙ sym (kept-by is_kept (found_property (node_path d) x ts) (found_properties (node_path d) xs (drop (all_uses x.value.now.parts.items) ts)) false (ap not (repeats-same x ts ∙ is)))
     by so false is =
-        ap (λ es. found_property (node_path d) x ts ∷ es) (so (drop (all_uses x.value.now) ts))
-        ∙ sym (kept-by is_kept (found_property (node_path d) x ts) (found_properties (node_path d) xs (drop (all_uses x.value.now) ts)) true (ap not (repeats-same x ts ∙ is)))
+        ap (λ es. found_property (node_path d) x ts ∷ es) (so (drop (all_uses x.value.now.parts.items) ts))
+        ∙ sym (kept-by is_kept (found_property (node_path d) x ts) (found_properties (node_path d) xs (drop (all_uses x.value.now.parts.items) ts)) true (ap not (repeats-same x ts ∙ is)))
 
 -- ---- they have no sites
 string-sites : (ns : List PathPhandle) (p : Path) (n text : List ℕ) (v : List Found) → is_string_of text v ≡ true → sites_in ns p n 0 v ≡ []
@@ -156,11 +156,11 @@ module _ (ns : List PathPhandle) (g : Definition (List Found) → Bool) where
 -- ---- nodes and names as they are read
 pub bare-read : (rows : List NodeRow) (xs : List (NodeProperty Parts)) (ts : List (Option ℕ)) → map bare (found_properties (path_of rows) xs ts) ≡ map bare (map (read_property rows) xs)
 bare-read rows [] ts = refl
-bare-read rows (x ∷ xs) ts = ap (λ ks. bare (read_property rows x) ∷ ks) (bare-read rows xs (drop (all_uses x.value.now) ts))
+bare-read rows (x ∷ xs) ts = ap (λ ks. bare (read_property rows x) ∷ ks) (bare-read rows xs (drop (all_uses x.value.now.parts.items) ts))
 
 paths-read : (rows : List NodeRow) (xs : List (NodeProperty Parts)) (ts : List (Option ℕ)) → map (λ e. e.path) (map (read_property rows) xs) ≡ map (λ e. e.path) (found_properties (path_of rows) xs ts)
 paths-read rows [] ts = refl
-paths-read rows (x ∷ xs) ts = ap (λ ks. path_of rows x.node ∷ ks) (paths-read rows xs (drop (all_uses x.value.now) ts))
+paths-read rows (x ∷ xs) ts = ap (λ ks. path_of rows x.node ∷ ks) (paths-read rows xs (drop (all_uses x.value.now.parts.items) ts))
 
 -- what is found stands in the order of the walk
 pub walked-found : (d : LiveTree Parts) → AreNodes (tree_of d).nodes → (xs : List (NodeProperty Parts)) → map (read_property d.nodes.items) xs ≡ in_order (tree_of d) → (ts : List (Option ℕ))

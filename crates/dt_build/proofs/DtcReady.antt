@@ -148,7 +148,7 @@ module _ {symbols plugin : Bool} {processor : ℕ} {t : DtcTree} {meant : meanin
   own-same : (n : ℕ) → stood n ≡ true → (ys : List (NodeProperty Parts)) → Each (λ y. stood y.node ≡ true) ys → (ts : List (Option ℕ))
       → has_own_row ys n ≡ list_any (λ e. bytes_eq e.name (codes "phandle") && same_path e.path (node_path d n)) (found_properties (node_path d) ys ts)
   own-same n up [] h ts = refl
-  own-same n up (y ∷ ys) h ts = ap₂ (λ a b. (bytes_eq y.name.now (codes "phandle") && a) || b) (told y.node n h.0 up) (own-same n up ys h.1 (drop (all_uses y.value.now) ts))
+  own-same n up (y ∷ ys) h ts = ap₂ (λ a b. (bytes_eq y.name.now (codes "phandle") && a) || b) (told y.node n h.0 up) (own-same n up ys h.1 (drop (all_uses y.value.now.parts.items) ts))
 
   here-same : (y : NodePhandle) → stood y.node ≡ true → is_added d (has_own_row xs) y ≡ here (node_path d y.node)
   here-same y up =

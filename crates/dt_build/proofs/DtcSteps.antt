@@ -19,17 +19,18 @@ use Rattle.dt_meaning.specs.DtcStatements.{dtc_edited, dtc_state}
 use Rattle.dt_source.specs.Lawful.{IsLawful}
 use Rattle.dt_meaning.specs.DtcLaws.{IsSoundState}
 use Rattle.dt_edit.specs.declared.standing.Standing.{Standing}
-use Rattle.dt_edit.specs.declared.error.EditError.{EditError}
+use Rattle.dt_edit.specs.declared.error.EditErrorKind.{EditErrorKind}
 use Rattle.dt_edit.specs.EditFault as edit
 use Rattle.dt_edit.specs.Said.{tree_of}
 use Rattle.dt_tree_builder.proofs.PathFacts.{or-false}
 use Rattle.dt_resolve.specs.declared.error.BuildError.{BuildError}
+use Rattle.dt_resolve.specs.declared.error.BuildErrorKind.{BuildErrorKind}
 use Rattle.dt_resolve.specs.declared.gathered.Gathered.{Gathered}
 use Rattle.dt_resolve.specs.BuildFault.{IsFault, build_error}
 use Rattle.dt_resolve.specs.Gathered.{IsGathered, all_gathered}
 use Rattle.dt_resolve.proofs.Faults.{edit-fault, fault-same, fault-then}
 use Rattle.dt_build.specs.declared.draft.Draft.{Draft}
-use Rattle.dt_build.specs.BuiltByDtc.{BuildsDtc, DtcRefuses, IsDtcBuilt}
+use Rattle.dt_build.specs.BuiltByDtc.{BuildsDtc, IsDtcBuilt}
 use Rattle.dt_build.specs.Private.DtcDrafts.{IsDtcDraft}
 use Rattle.dt_build.specs.Private.DtcTrees.{IsGatheredOf, IsReadAs}
 use Rattle.dt_build.specs.Private.Named.{IsName}
@@ -109,17 +110,17 @@ of-draft of draft = record {
 
 -- ---- faults
 module _ (symbols : Bool) (m : Meaning) where
-  edit-refused : (e : BuildError) → IsFault e (dtc_edited m) → DtcRefuses symbols m e
+  edit-refused : (e : BuildErrorKind) → IsFault e (dtc_edited m) → IsFault e (dtc_resolved symbols m)
   edit-refused e fault = fault-then e (dtc_edited m) (resolved_tree symbols m.plugin) fault
 
-  pub edits-refused : (a : EditError) (e : BuildError) → e ≡ build_error a → edit.IsFault a (dtc_edited m) → DtcRefuses symbols m e
-  edits-refused a e is fault = subst (DtcRefuses symbols m) (sym is) (edit-refused (build_error a) (edit-fault a (dtc_edited m) fault))
+  pub edits-refused : (a : EditErrorKind) (e : BuildErrorKind) → e ≡ build_error a → edit.IsFault a (dtc_edited m) → IsFault e (dtc_resolved symbols m)
+  edits-refused a e is fault = subst (λ (k : BuildErrorKind). IsFault k (dtc_resolved symbols m)) (sym is) (edit-refused (build_error a) (edit-fault a (dtc_edited m) fault))
 
   module _ (t : DtcTree) (edited : dtc_edited m ≡ Ok t) where
     pub resolved-by : dtc_resolved symbols m ≡ then_do (all_gathered symbols m.plugin t) (λ g. shallow (gathered_tree symbols m.plugin t g))
     resolved-by = ap (λ r. then_do r (resolved_tree symbols m.plugin)) edited ∙ resolved-gathered symbols m.plugin t
 
-    pub gather-refused : (e : BuildError) → IsFault e (all_gathered symbols m.plugin t) → DtcRefuses symbols m e
+    pub gather-refused : (e : BuildErrorKind) → IsFault e (all_gathered symbols m.plugin t) → IsFault e (dtc_resolved symbols m)
     gather-refused e fault =
         fault-same e (then_do (all_gathered symbols m.plugin t) (λ g. shallow (gathered_tree symbols m.plugin t g))) (dtc_resolved symbols m) resolved-by
         (fault-then e (all_gathered symbols m.plugin t) (λ g. shallow (gathered_tree symbols m.plugin t g)) fault)
@@ -161,7 +162,7 @@ module _ (symbols : Bool) (m : Meaning) where
 
       builds : (limit : ℕ) (result : Result (Option TreeData) BuildError) → MakesTree symbols m draft limit result → BuildsDtc symbols m limit result
       builds limit (Ok tree) h = built h.0 limit tree h.1
-      builds limit (Err e) h = fault-same e (shallow (lists symbols draft)) (dtc_resolved symbols m) resolved-lists h
+      builds limit (Err e) h = fault-same e.kind (shallow (lists symbols draft)) (dtc_resolved symbols m) resolved-lists h
 
       -- ---- of a draft that is this one
       module _ (made : Draft) (same : made ≡ draft) where

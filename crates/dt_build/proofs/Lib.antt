@@ -43,6 +43,7 @@ pub mod NamedSources
 pub mod NewPhandles
 pub mod NodeNames
 pub mod NodePhandleSteps
+pub mod PlaceSteps
 pub mod Ready
 pub mod Shallow
 pub mod SiteNames

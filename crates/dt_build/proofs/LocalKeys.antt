@@ -66,7 +66,7 @@ module _ {V : Type 0} where
 
 bare-founds : (p : Draft) (xs : List (NodeProperty Parts)) (ts : List (Option ℕ)) → map bare (found_properties (node_path p.live) xs ts) ≡ map bare (map (key_of p) xs)
 bare-founds p [] ts = refl
-bare-founds p (x ∷ xs) ts = ap (λ ks. bare (key_of p x) ∷ ks) (bare-founds p xs (drop (all_uses x.value.now) ts))
+bare-founds p (x ∷ xs) ts = ap (λ ks. bare (key_of p x) ∷ ks) (bare-founds p xs (drop (all_uses x.value.now.parts.items) ts))
 
 module _ (p : Draft) (ready : IsReady p) where
   founds-apart : InPairs HasOtherKey (founds p)

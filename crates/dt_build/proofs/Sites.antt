@@ -55,12 +55,12 @@ sites-more ns q n f fs gs offset next old new whole at step sum so =
 
 -- those of a property more
 pub property-more : (p : Draft) (i : ℕ) (x : NodeProperty Parts) (ts us : List (Option ℕ)) (old new whole : List Site) → i < length p.in_preorder.properties.items → x ≡ get_or p.in_preorder.properties.items i x
-    → us ≡ drop (all_uses x.value.now) ts → new ≡ old ++ fixed_sites p.asks (all_phandles p) (found_property (node_path p.live) x ts)
+    → us ≡ drop (all_uses x.value.now.parts.items) ts → new ≡ old ++ fixed_sites p.asks (all_phandles p) (found_property (node_path p.live) x ts)
     → old ++ all_left p.asks (all_phandles p) (node_path p.live) (drop i p.in_preorder.properties.items) ts ≡ whole → new ++ all_left p.asks (all_phandles p) (node_path p.live) (drop (i + 1) p.in_preorder.properties.items) us ≡ whole
 property-more p i x ts us old new whole below at behind put so =
     let ns = all_phandles p in
     let path = node_path p.live in
     let rest = drop (i + 1) p.in_preorder.properties.items in
     ap₂ (λ xs vs. xs ++ all_left p.asks ns path rest vs) put behind
-    ∙ append_assoc old (fixed_sites p.asks ns (found_property path x ts)) (all_left p.asks ns path rest (drop (all_uses x.value.now) ts))
+    ∙ append_assoc old (fixed_sites p.asks ns (found_property path x ts)) (all_left p.asks ns path rest (drop (all_uses x.value.now.parts.items) ts))
     ∙ ap (λ y. old ++ all_left p.asks ns path (y ∷ rest) ts) at ∙ sym (at_drop_more (λ ys. old ++ all_left p.asks ns path ys ts) p.in_preorder.properties.items i x below) ∙ so

@@ -24,7 +24,7 @@ module _ (asks : Bool) (ns : List PathPhandle) where
   walk-sites path [] ts = refl
   walk-sites path (x ∷ xs) ts =
       let e = found_property path x ts in
-      one-fixed e (filter (is_fixed asks) (found_properties path xs (drop (all_uses x.value.now) ts))) (is_fixed asks e) (all_left asks ns path xs (drop (all_uses x.value.now) ts)) (walk-sites path xs (drop (all_uses x.value.now) ts))
+      one-fixed e (filter (is_fixed asks) (found_properties path xs (drop (all_uses x.value.now.parts.items) ts))) (is_fixed asks e) (all_left asks ns path xs (drop (all_uses x.value.now.parts.items) ts)) (walk-sites path xs (drop (all_uses x.value.now.parts.items) ts))
 
 pub all-sites : (p : Draft) → all_left p.asks (all_phandles p) (node_path p.live) p.in_preorder.properties.items (targets_anew p.targets.items p.anew) ≡ sites (all_phandles p) (fixed p)
 all-sites p = walk-sites p.asks (all_phandles p) (node_path p.live) p.in_preorder.properties.items (targets_anew p.targets.items p.anew)

@@ -27,7 +27,7 @@ use Rattle.dt_build.proofs.NewPhandles.{own-is}
 all-bytes : (path : ℕ → Path) (ns : List PathPhandle) (xs : List (NodeProperty Parts)) (ts : List (Option ℕ)) → entries path xs (values_of ns path (values_in xs) ts) ≡ map (with_bytes ns) (found_properties path xs ts)
 all-bytes path ns [] ts = refl
 all-bytes path ns (x ∷ xs) ts =
-    ap (λ ds. definition (path x.node) x.name.now (value_bytes ns (founds_of path x.value.now ts)) ∷ ds) (all-bytes path ns xs (drop (all_uses x.value.now) ts))
+    ap (λ ds. definition (path x.node) x.name.now (value_bytes ns (founds_of path x.value.now.parts.items ts)) ∷ ds) (all-bytes path ns xs (drop (all_uses x.value.now.parts.items) ts))
 
 -- ---- what is found, as bytes
 held-bytes : (ns : List PathPhandle) (es : List (Definition (List Found))) (q : Path) → map (with_bytes ns) (held es q) ≡ held (map (with_bytes ns) es) q

@@ -18,14 +18,14 @@ module _ (ns : List PathPhandle) (path : ℕ → Path) where
   abbrev pub made : List (NodeProperty Parts) → List (Option ℕ) → List (Definition (List ℕ))
   made ys ts = entries path ys (values_of ns path (values_in ys) ts)
 
-  pub sizes-more : (xs : List (NodeProperty Parts)) (i : ℕ) (x : NodeProperty Parts) (ts rest : List (Option ℕ)) → i < length xs → x ≡ get_or xs i x → rest ≡ drop (all_uses x.value.now) ts
-      → (size part sum whole : ℕ) → part ≡ min (length (value_bytes ns (founds_of path x.value.now ts))) (2 ^ 64 - 1) → sum ≡ min (size + part) (2 ^ 64 - 1)
+  pub sizes-more : (xs : List (NodeProperty Parts)) (i : ℕ) (x : NodeProperty Parts) (ts rest : List (Option ℕ)) → i < length xs → x ≡ get_or xs i x → rest ≡ drop (all_uses x.value.now.parts.items) ts
+      → (size part sum whole : ℕ) → part ≡ min (length (value_bytes ns (founds_of path x.value.now.parts.items ts))) (2 ^ 64 - 1) → sum ≡ min (size + part) (2 ^ 64 - 1)
       → min (size + size_in (made (drop i xs) ts)) (2 ^ 64 - 1) ≡ whole → min (sum + size_in (made (drop (i + 1) xs) rest)) (2 ^ 64 - 1) ≡ whole
   sizes-more xs i x ts rest below is left size part sum whole a b so =
-      let all : size_in (made (drop i xs) ts) ≡ length (value_bytes ns (founds_of path x.value.now ts)) + size_in (made (drop (i + 1) xs) rest) =
+      let all : size_in (made (drop i xs) ts) ≡ length (value_bytes ns (founds_of path x.value.now.parts.items ts)) + size_in (made (drop (i + 1) xs) rest) =
       at_drop_more (λ (ys : List (NodeProperty Parts)). size_in (made ys ts)) xs i x below
       ∙ ap (λ (y : NodeProperty Parts). size_in (made (y ∷ drop (i + 1) xs) ts)) (sym is)
-      ∙ ap (λ (us : List (Option ℕ)). length (value_bytes ns (founds_of path x.value.now ts)) + size_in (made (drop (i + 1) xs) us)) (sym left) in
+      ∙ ap (λ (us : List (Option ℕ)). length (value_bytes ns (founds_of path x.value.now.parts.items ts)) + size_in (made (drop (i + 1) xs) us)) (sym left) in
       omega arith
 
   pub sizes-all : (xs : List (NodeProperty Parts)) (i size whole : ℕ) (ts : List (Option ℕ)) → length xs ≤ i → size ≤ 2 ^ 64 - 1 → min (size + size_in (made (drop i xs) ts)) (2 ^ 64 - 1) ≡ whole → size ≡ whole

@@ -38,7 +38,7 @@ IsBuilt symbols m limit None = IsLonger symbols m limit
 
 -- why a source makes no tree
 abbrev pub Refuses : Bool → Meaning → BuildError → Type 0
-Refuses symbols m e = IsFault e (resolved symbols m)
+Refuses symbols m e = IsFault e.kind (resolved symbols m)
 
 -- what a build answers: within a limit, and however long the values are
 abbrev pub Builds : Bool → Meaning → ℕ → Result (Option TreeData) BuildError → Type 0

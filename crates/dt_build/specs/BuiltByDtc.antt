@@ -1,6 +1,8 @@
 -- What a build in dtc's language answers: the resolved tree with its boot processor, where its values are short enough, or why there is
 -- none (Devicetree Specification v0.4, chapters 5 and 6; where it is silent, dtc 1.6.1, tried by hand).
 use Rattle.std.specs.Prelude.{◌≡◌, ◌<◌, ◌≤◌, ◌-◌, ◌^◌, ℕ, Bool, Option, None, Some, Result, Ok, MatchResult}
+use Rattle.std.specs.Option.{option_map}
+use Rattle.std.specs.Result.{result_map_both}
 use Rattle.dt_tree.specs.NodeData.{NodeData}
 use Rattle.dt_tree.specs.PathMap.{TreeMap, path_map, tree_map}
 use Rattle.dt_tree.specs.Sound.{IsSound}
@@ -11,8 +13,12 @@ use Rattle.dt_meaning.specs.DtcResolved.{dtc_resolved}
 use Rattle.dt_meaning.specs.MapOf.{map_of, tree_map_of}
 use Rattle.dt_meaning.specs.Resolved.{Resolved}
 use Rattle.dt_tree_builder.specs.Sizes.{size_in, size_below}
+use Rattle.dt_source.specs.declared.tree.Source.{Source}
+use Rattle.dt_source.specs.Meaning.{meaning_of}
 use Rattle.dt_resolve.specs.declared.error.BuildError.{BuildError}
 use Rattle.dt_resolve.specs.BuildFault.{IsFault}
+use Rattle.dt_build.specs.declared.dtc_building.Built.{Built}
+use Rattle.dt_build.specs.Places.{ArePlacesOf, first_root}
 
 -- the same tree, whose system boots on this processor
 abbrev pub booting : ℕ → TreeMap → TreeMap
@@ -46,8 +52,16 @@ IsDtcBuilt symbols m limit None = IsDtcLonger symbols m limit
 
 -- why a source makes no tree
 abbrev pub DtcRefuses : Bool → Meaning → BuildError → Type 0
-DtcRefuses symbols m e = IsFault e (dtc_resolved symbols m)
+DtcRefuses symbols m e = IsFault e.kind (dtc_resolved symbols m)
 
 -- what a build answers
 abbrev pub BuildsDtc : Bool → Meaning → ℕ → Result (Option TreeData) BuildError → Type 0
 BuildsDtc symbols m limit result = MatchResult result (λ tree. IsDtcBuilt symbols m limit tree) (λ e. DtcRefuses symbols m e)
+
+-- the trees of what is built with its places
+abbrev pub trees_of : Result (Option Built) BuildError → Result (Option TreeData) BuildError
+trees_of result = result_map_both (option_map (λ b. b.tree)) (λ e. e) result
+
+-- and its places are those of its source's rows
+abbrev pub HasPlaces : Bool → Source → Built → Type 0
+HasPlaces symbols source b = ArePlacesOf symbols (meaning_of source) (first_root source.items.items) b.places

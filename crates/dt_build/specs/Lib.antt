@@ -1,3 +1,4 @@
 pub mod Built
 pub mod BuiltByDtc
+pub mod Places
 pub mod Private

@@ -10,6 +10,7 @@ pub mod LocalFixups
 pub mod Made
 pub mod Named
 pub mod NodePhandles
+pub mod Places
 pub mod Ready
 pub mod SourceValues
 pub mod Values

@@ -14,12 +14,12 @@ ghost use Rattle.dt_build.specs.Private.Ready.{IsReady};
 
 use crate::draft::{Draft, draft_of};
 use crate::fixup_sites::{FixupSite, find_sites};
-use crate::local_depth::is_local_too_deep;
+use crate::local_depth::local_too_deep;
 use crate::making::make;
 use crate::node_phandles::number;
 use crate::sizes::total_size;
 use dt_edit::{Fragments, fragments_of};
-use dt_resolve::{BuildError, prepare};
+use dt_resolve::{BuildError, BuildErrorKind, prepare};
 use dt_source::Source;
 use dt_tree::Tree;
 use std::alloc::{AllocError, Global};
@@ -67,8 +67,9 @@ pub(crate) fn draft_tree(
 {
     let sites = find_sites(alloc, draft)?;
     // behind the edits only the local fixups of a node is deeper than the node
-    if is_local_too_deep(draft, sites.as_slice()) {
-        return Err(BuildError::TooDeep);
+    if let Some(at) = local_too_deep(draft, sites.as_slice()) {
+        let kind = BuildErrorKind::TooDeep;
+        return Err(BuildError { kind, at });
     }
     let tree = fitting_tree(alloc, source, draft, sites.as_slice(), symbols, limit)?;
     Ok(tree)

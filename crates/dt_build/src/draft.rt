@@ -5,7 +5,7 @@ ghost use Rattle.dt_build.specs.Private.Drafts.{IsDraftOf};
 
 use dt_live::{LiveTree, Preorder};
 use dt_resolve::{NodePhandle, Prepared, Resolution};
-use dt_source::Part;
+use dt_source::Value;
 use std::alloc::{AllocError, Global};
 
 /// A tree in preorder, the targets of its references, and the phandles of its nodes.
@@ -14,8 +14,8 @@ pub(crate) struct Draft<'d, 't> {
     /// whether a node asks for a number by a reference to itself in its own `phandle`
     pub(crate) asks: bool,
     pub(crate) plugin: bool,
-    pub(crate) live: LiveTree<'d, &'d [Part<'t>]>,
-    pub(crate) in_preorder: Preorder<'d, &'d [Part<'t>]>,
+    pub(crate) live: LiveTree<'d, &'d Value<'t>>,
+    pub(crate) in_preorder: Preorder<'d, &'d Value<'t>>,
     pub(crate) targets: Vec<Option<usize>>,
     /// the targets that fixups are made of, where these are others
     pub(crate) anew: Option<Vec<Option<usize>>>,

@@ -1,18 +1,28 @@
 //! The tree of a source in dtc's language.
+ghost use Rattle.std.specs.Prelude.{IfOk, IfSome};
 ghost use Rattle.dt_source.specs.Lawful.{IsLawful};
 ghost use Rattle.dt_source.specs.Meaning.{meaning_of};
 ghost use Rattle.dt_edit.specs.Fragments.{AreFragments};
-ghost use Rattle.dt_build.specs.BuiltByDtc.{BuildsDtc};
+ghost use Rattle.dt_build.specs.BuiltByDtc.{BuildsDtc, HasPlaces, trees_of};
 ghost use Rattle.dt_build.specs.Private.DtcTrees.{IsGatheredOf, IsReadAs};
 
 use crate::building::draft_tree;
 use crate::dtc_draft::dtc_draft_of;
+use crate::places::{first_root, places_of};
 use dt_edit::{Fragments, Standing, edit_dtc, fragments_of};
+use dt_making::Places;
 use dt_resolve::{BuildError, Gathered, gather};
 use dt_source::Source;
 use dt_tree::Tree;
 use std::alloc::Global;
 use std::hash::RandomState;
+
+/// A tree, and where the text of its source has its nodes and properties.
+#[derive(Drop)]
+pub struct Built {
+    pub tree: Tree,
+    pub places: Places,
+}
 
 // The tree of what is gathered of a source, or why it has none.
 fn gathered_tree<'d, 't>(
@@ -22,12 +32,20 @@ fn gathered_tree<'d, 't>(
     processor: u32,
     symbols: bool,
     limit: usize,
-) -> Result<Option<Tree>, BuildError>
+) -> Result<Option<Built>, BuildError>
     requires { IsGatheredOf symbols (meaning_of source.now) processor gathered }
-    ensures { BuildsDtc symbols (meaning_of source.now) limit result }
+    ensures tree { BuildsDtc symbols (meaning_of source.now) limit (trees_of result) }
+    ensures places { IfOk result (λ built. IfSome built (HasPlaces symbols source.now)) }
 {
     let draft = dtc_draft_of(alloc, gathered, source.plugin, processor)?;
-    draft_tree(alloc, source, &draft, symbols, limit)
+    match draft_tree(alloc, source, &draft, symbols, limit) {
+        Ok(Some(tree)) => {
+            let places = places_of(alloc, &draft, first_root(source.items.as_slice()))?;
+            Ok(Some(Built { tree, places }))
+        }
+        Ok(None) => Ok(None),
+        Err(error) => Err(error),
+    }
 }
 
 // The tree of what stands when a source is read, or why it has none.
@@ -37,10 +55,11 @@ fn standing_tree<'d, 't>(
     standing: Standing<'d, 't>,
     symbols: bool,
     limit: usize,
-) -> Result<Option<Tree>, BuildError>
+) -> Result<Option<Built>, BuildError>
     requires lawful { IsLawful (meaning_of source.now) }
     requires stands { IsReadAs (meaning_of source.now) standing }
-    ensures { BuildsDtc symbols (meaning_of source.now) limit result }
+    ensures tree { BuildsDtc symbols (meaning_of source.now) limit (trees_of result) }
+    ensures places { IfOk result (λ built. IfSome built (HasPlaces symbols source.now)) }
 {
     let processor = standing.boot_processor;
     match gather(alloc, standing, symbols, source.plugin) {
@@ -57,10 +76,11 @@ fn dtc_source_tree<'d, 't>(
     fragments: &'d Fragments<'t>,
     symbols: bool,
     limit: usize,
-) -> Result<Option<Tree>, BuildError>
+) -> Result<Option<Built>, BuildError>
     requires lawful { IsLawful (meaning_of source.now) }
     requires fragments { AreFragments (meaning_of source.now).items fragments.now }
-    ensures { BuildsDtc symbols (meaning_of source.now) limit result }
+    ensures tree { BuildsDtc symbols (meaning_of source.now) limit (trees_of result) }
+    ensures places { IfOk result (λ built. IfSome built (HasPlaces symbols source.now)) }
 {
     match edit_dtc(alloc, hasher, fragments, source) {
         Ok(standing) => standing_tree(alloc, source, standing, symbols, limit),
@@ -68,7 +88,7 @@ fn dtc_source_tree<'d, 't>(
     }
 }
 
-/// The tree of a source in dtc's language, with its boot processor, or None where its values are longer together than the limit, in
+/// The tree of a source in dtc's language, with its boot processor and its places in the text, or None where its values are longer together than the limit, in
 /// bytes: sizes are counted before any value is made. With symbols the root gets `__symbols__`, with the path of each labelled node; a
 /// plugin's root gets `__fixups__` and `__local_fixups__`, with the sites of its phandles. Errors: 20 to 28 (Devicetree Specification
 /// v0.4, chapter 6; where it is silent, dtc 1.6.1).
@@ -78,8 +98,9 @@ pub fn build_dtc_within(
     source: &Source<'_>,
     symbols: bool,
     limit: usize,
-) -> Result<Option<Tree>, BuildError>
-    ensures tree { BuildsDtc symbols (meaning_of source.now) limit result }
+) -> Result<Option<Built>, BuildError>
+    ensures tree { BuildsDtc symbols (meaning_of source.now) limit (trees_of result) }
+    ensures places { IfOk result (λ built. IfSome built (HasPlaces symbols source.now)) }
 {
     source.check();
     let fragments = fragments_of(alloc, source.items.as_slice())?;

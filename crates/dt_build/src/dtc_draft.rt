@@ -10,15 +10,15 @@ use crate::draft::Draft;
 use crate::node_names::repeats_name;
 use dt_live::{LiveTree, NodeProperty, Preorder};
 use dt_resolve::{Gathered, NodePhandle};
-use dt_source::Part;
+use dt_source::Value;
 use std::alloc::{AllocError, Global};
 
 // The properties but those that repeat the names of their nodes. Their targets stay the same: such a value has none.
 fn without_names<'d, 't>(
     alloc: Global,
-    live: &LiveTree<'d, &'d [Part<'t>]>,
-    properties: &[NodeProperty<'d, &'d [Part<'t>]>],
-) -> Result<Vec<NodeProperty<'d, &'d [Part<'t>]>>, AllocError>
+    live: &LiveTree<'d, &'d Value<'t>>,
+    properties: &[NodeProperty<'d, &'d Value<'t>>],
+) -> Result<Vec<NodeProperty<'d, &'d Value<'t>>>, AllocError>
     requires sound { IsLiveTree live.now }
     requires known { All (λ x. IsNode live.now x.node) properties.now }
     ensures { IfOk result (λ kept. kept.items ≡ kept_properties live.now properties.now) }
@@ -36,7 +36,7 @@ fn without_names<'d, 't>(
 fn own_marks<'d, 't>(
     alloc: Global,
     count: usize,
-    properties: &[NodeProperty<'d, &'d [Part<'t>]>],
+    properties: &[NodeProperty<'d, &'d Value<'t>>],
 ) -> Result<Vec<bool>, AllocError>
     requires { All (λ x. x.node < count) properties.now }
     ensures count { IfOk result (λ marks. length marks.items ≡ count) }
@@ -52,11 +52,7 @@ fn own_marks<'d, 't>(
 }
 
 // Whether a phandle gets a property: its node is left, and has none of its own.
-fn gets_property<'d, 't>(
-    live: &LiveTree<'d, &'d [Part<'t>]>,
-    own: &[bool],
-    one: NodePhandle,
-) -> bool
+fn gets_property<'d, 't>(live: &LiveTree<'d, &'d Value<'t>>, own: &[bool], one: NodePhandle) -> bool
     requires sound { IsLiveTree live.now }
     requires known { IsNode live.now one.node }
     requires own { one.node < length own.now }
@@ -71,7 +67,7 @@ fn gets_property<'d, 't>(
 // The phandles that get a property.
 fn added_phandles<'d, 't>(
     alloc: Global,
-    live: &LiveTree<'d, &'d [Part<'t>]>,
+    live: &LiveTree<'d, &'d Value<'t>>,
     own: &[bool],
     phandles: &[NodePhandle],
 ) -> Result<Vec<NodePhandle>, AllocError>

@@ -12,7 +12,7 @@ use crate::draft::{Draft, fixed_targets};
 use crate::value::part_size;
 use dt_live::NodeProperty;
 use dt_resolve::{asks_for_own, target_at, target_count, targets_behind};
-use dt_source::{Part, Reference};
+use dt_source::{Part, Reference, Value};
 use std::alloc::{AllocError, Global};
 
 /// A phandle in a value: the place of its property in preorder, the reference where no node of the source has its label, and how
@@ -29,8 +29,8 @@ pub(crate) fn label_of<'t>(reference: &Reference<'t>) -> &'t [u8]
     ensures { result.now ≡ label_in reference.now }
 {
     match reference {
-        Reference::Label(label) => label,
-        Reference::Path(_) => &[],
+        Reference::Label { at: _, label } => label,
+        Reference::Path { .. } => &[],
     }
 }
 
@@ -61,8 +61,8 @@ fn put_site<'d>(
     Ok(())
 }
 
-// Where the next part of a value begins.
-fn offset_behind(
+/// Where the next part of a value begins.
+pub(crate) fn offset_behind(
     draft: &Draft<'_, '_>,
     part: &Part<'_>,
     target: Option<usize>,
@@ -108,7 +108,7 @@ fn put_sites<'d>(
 // Whether the phandles of a property are fixups: a number that its own node asks for is none.
 fn gives_sites<'d>(
     draft: &Draft<'d, 'd>,
-    property: &NodeProperty<'d, &'d [Part<'d>]>,
+    property: &NodeProperty<'d, &'d Value<'d>>,
     targets: &[Option<usize>],
 ) -> bool
     requires ready { IsReady draft.now }
@@ -127,7 +127,7 @@ fn put_fixed<'d>(
     sites: &mut Vec<FixupSite<'d>>,
     draft: &Draft<'d, 'd>,
     place: usize,
-    property: &NodeProperty<'d, &'d [Part<'d>]>,
+    property: &NodeProperty<'d, &'d Value<'d>>,
     targets: &[Option<usize>],
 ) -> Result<(), AllocError>
     requires ready { IsReady draft.now }
@@ -142,7 +142,13 @@ fn put_fixed<'d>(
     if !gives_sites(draft, property, targets) {
         return Ok(());
     }
-    put_sites(sites, draft, place, property.value, targets)?;
+    put_sites(
+        sites,
+        draft,
+        place,
+        property.value.parts.as_slice(),
+        targets,
+    )?;
     Ok(())
 }
 
@@ -163,7 +169,7 @@ pub(crate) fn find_sites<'d>(
     let properties = draft.in_preorder.properties.as_slice();
     for (property, node_property) in properties.iter().enumerate() {
         put_fixed(&mut sites, draft, property, node_property, targets)?;
-        targets = targets_behind(node_property.value, targets);
+        targets = targets_behind(node_property.value.parts.as_slice(), targets);
     }
     Ok(sites)
 }

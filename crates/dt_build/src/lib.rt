@@ -17,11 +17,12 @@ mod local_properties;
 mod making;
 mod node_names;
 mod node_phandles;
+mod places;
 mod sizes;
 mod source_values;
 mod symbols;
 mod value;
 
 pub use building::{build, build_within};
-pub use dt_resolve::BuildError;
-pub use dtc_building::build_dtc_within;
+pub use dt_resolve::{BuildError, BuildErrorKind};
+pub use dtc_building::{Built, build_dtc_within};

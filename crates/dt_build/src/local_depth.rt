@@ -1,5 +1,5 @@
 //! How deep a plugin's local fixups are.
-ghost use Rattle.std.specs.Prelude.{◌≡◌, ◌<◌, Bool, length};
+ghost use Rattle.std.specs.Prelude.{◌≡◌, ◌<◌, Bool, is_some, length};
 ghost use Rattle.std.specs.List.{list_any};
 ghost use Rattle.dt_meaning.specs.Resolved.{is_too_deep};
 ghost use Rattle.dt_build.specs.Private.Made.{lists};
@@ -23,17 +23,17 @@ fn is_site_too_deep(draft: &Draft<'_, '_>, site: FixupSite<'_>) -> bool
     }
 }
 
-/// Whether the local fixups of a node would be deeper than a node may be.
-pub(crate) fn is_local_too_deep(draft: &Draft<'_, '_>, sites: &[FixupSite<'_>]) -> bool
+/// Where the first property is defined whose node's local fixups would be deeper than a node may be, in bytes; none where all fit.
+pub(crate) fn local_too_deep(draft: &Draft<'_, '_>, sites: &[FixupSite<'_>]) -> Option<u32>
     requires ready { IsReady draft.now }
     requires sites { AreSites draft.now sites.now }
     // symbols are properties of a child of the root, so no node is deeper with them
-    ensures { (symbols : Bool) → result ≡ list_any is_too_deep (lists symbols draft.now).nodes }
+    ensures { (symbols : Bool) → is_some result ≡ list_any is_too_deep (lists symbols draft.now).nodes }
 {
     for site in sites {
         if is_site_too_deep(draft, *site) {
-            return true;
+            return Some(draft.in_preorder.properties[site.property].value.at);
         }
     }
-    false
+    None
 }

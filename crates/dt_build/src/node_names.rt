@@ -9,7 +9,7 @@ ghost use Rattle.dt_resolve.specs.Founds.{founds_of};
 ghost use Rattle.dt_build.specs.Private.DtcDrafts.{repeats};
 
 use dt_live::{LiveTree, NodeProperty, NodeRow};
-use dt_source::Part;
+use dt_source::{Part, Value};
 
 // The name of a node, none for the root.
 fn node_name<'t>(nodes: &[NodeRow<'t>], node: usize) -> &'t [u8]
@@ -66,8 +66,8 @@ fn is_text(value: &[Part<'_>], text: &[u8]) -> bool
 
 /// Whether a property is a node's `name` and says the node's name up to its address: dtc leaves it out.
 pub(crate) fn repeats_name<'d, 't>(
-    live: &LiveTree<'d, &'d [Part<'t>]>,
-    property: &NodeProperty<'d, &'d [Part<'t>]>,
+    live: &LiveTree<'d, &'d Value<'t>>,
+    property: &NodeProperty<'d, &'d Value<'t>>,
 ) -> bool
     requires sound { IsLiveTree live.now }
     requires known { IsNode live.now property.now.node }
@@ -77,5 +77,5 @@ pub(crate) fn repeats_name<'d, 't>(
         return false;
     }
     let name = node_name(live.nodes(), property.node);
-    is_text(property.value, base_name(name))
+    is_text(property.value.parts.as_slice(), base_name(name))
 }

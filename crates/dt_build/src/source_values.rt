@@ -12,7 +12,7 @@ use crate::node_phandles::NodePhandles;
 use crate::value::{value_bytes, value_size};
 use dt_making::Values;
 use dt_resolve::targets_behind;
-use dt_source::Part;
+use dt_source::Value;
 use dt_tree::Bytes;
 use std::alloc::{AllocError, Global};
 
@@ -24,16 +24,17 @@ pub(crate) struct SourceValues<'p, 'd, 't> {
     pub(crate) targets: &'p [Option<usize>],
 }
 
-impl<'p, 'd, 't> Values<&'d [Part<'t>]> for SourceValues<'p, 'd, 't> {
+impl<'p, 'd, 't> Values<&'d Value<'t>> for SourceValues<'p, 'd, 't> {
     ghost made = { λ s. source_made s.draft.now s.node_phandles.now };
 
     ghost is_ready = { AreReady };
 
     ghost bytes_of = { λ s vs. values_of (all_phandles s.draft.now) (node_path s.draft.now.live) vs s.targets.now };
 
-    fn next(&mut self, alloc: Global, value: &'d [Part<'t>]) -> Result<Bytes, AllocError> {
-        let bytes = value_bytes(alloc, self.draft, self.node_phandles, value, self.targets)?;
-        self.targets = targets_behind(value, self.targets);
+    fn next(&mut self, alloc: Global, value: &'d Value<'t>) -> Result<Bytes, AllocError> {
+        let parts = value.parts.as_slice();
+        let bytes = value_bytes(alloc, self.draft, self.node_phandles, parts, self.targets)?;
+        self.targets = targets_behind(parts, self.targets);
         Ok(bytes)
     }
 
@@ -53,8 +54,9 @@ pub(crate) fn values_size(draft: &Draft<'_, '_>) -> usize
     let mut size: usize = 0;
     let mut left = draft.targets.as_slice();
     for node_property in draft.in_preorder.properties.as_slice() {
-        size = size.saturating_add(value_size(draft, node_property.value, left));
-        left = targets_behind(node_property.value, left);
+        let parts = node_property.value.parts.as_slice();
+        size = size.saturating_add(value_size(draft, parts, left));
+        left = targets_behind(parts, left);
     }
     size
 }

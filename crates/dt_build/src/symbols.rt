@@ -12,7 +12,7 @@ ghost use Rattle.dt_build.specs.Private.Ready.{IsReady};
 
 use crate::draft::Draft;
 use dt_live::{LabelRow, LiveTree, append_path, path_size};
-use dt_source::Part;
+use dt_source::Value;
 use dt_tree::{Bytes, Property, lawful_name};
 use dt_tree_builder::TreeBuilder;
 use std::alloc::{AllocError, Global};
@@ -20,7 +20,7 @@ use std::alloc::{AllocError, Global};
 // A label's property: the path of its node.
 fn symbol_of<'t>(
     alloc: Global,
-    live: &LiveTree<'t, &'_ [Part<'t>]>,
+    live: &LiveTree<'t, &'_ Value<'t>>,
     row: &LabelRow<'t>,
 ) -> Result<Property, AllocError>
     requires sound { IsLiveTree live.now }

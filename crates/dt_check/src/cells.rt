@@ -1,5 +1,5 @@
 //! The cells of a value, one after the other.
-ghost use Rattle.std.specs.Prelude.{◌≡◌, ◌<◌, ◌∷◌, [], IfSome, MatchOption, length};
+ghost use Rattle.std.specs.Prelude.{◌≡◌, ◌+◌, ◌∷◌, [], IfSome, MatchOption, length};
 ghost use Rattle.dt_check.specs.Cells.{cells_of, cell_from};
 
 use dt_tree::cell_at;
@@ -8,7 +8,7 @@ use dt_tree::cell_at;
 pub fn next_cell(bytes: &[u8]) -> Option<(u32, &[u8])>
     ensures cell { MatchOption result (cells_of bytes.now ≡ [])
         (λ next. cells_of bytes.now ≡ next.0 ∷ cells_of next.1.now) }
-    ensures fewer { IfSome result (λ next. length next.1.now < length bytes.now) }
+    ensures rest { IfSome result (λ next. length next.1.now + 4 ≡ length bytes.now) }
 {
     let [a, b, c, d, rest @ ..] = bytes else {
         return None;

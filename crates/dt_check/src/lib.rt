@@ -38,6 +38,7 @@ pub use chosen::{
 pub use fault::Fault;
 pub use here::{Here, children, has};
 pub use lost::lost_fault;
+pub use marks::class_of;
 pub use message::{Bus, Graph, Message};
 pub use names::{
     name_fault, name_twice_fault, node_byte_fault, property_byte_fault, second_at_fault,

@@ -1,6 +1,6 @@
 //! A quick look at the names that a node's properties may have, before they are searched.
-ghost use Rattle.std.specs.Prelude.{◌≡◌, ◌<◌};
-ghost use Rattle.dt_check.specs.Private.Marks.{AreMarked, class_of, is_marked};
+ghost use Rattle.std.specs.Prelude.{◌≡◌, ◌<◌, false, slice_index_or};
+ghost use Rattle.dt_check.specs.Private.Marks.{AreMarked, class_of};
 
 use dt_tree::Property;
 
@@ -13,8 +13,8 @@ pub(crate) struct Marks {
     classes: [bool; CLASSES],
 }
 
-// The class of a name, by its length and its ends.
-fn class_of(name: &[u8]) -> usize
+/// The class of a name, by its length and its ends: a quick look goes by it (`Placed::may_have`).
+pub fn class_of(name: &[u8]) -> usize
     ensures value { result ≡ class_of name.now }
     ensures within { result < CLASSES }
 {
@@ -36,10 +36,13 @@ impl Marks {
         Self { classes }
     }
 
-    /// Whether one of them has the class of a name.
-    pub(crate) fn may_have(&self, name: &[u8]) -> bool
-        ensures { result ≡ is_marked self.now.classes name.now }
+    /// Whether one of them has a class.
+    pub(crate) fn may_have(&self, class: usize) -> bool
+        ensures { result ≡ slice_index_or self.now.classes class false }
     {
-        self.classes[class_of(name)]
+        match self.classes.get(class) {
+            Some(is_there) => *is_there,
+            None => false,
+        }
     }
 }

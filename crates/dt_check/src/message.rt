@@ -107,6 +107,8 @@ pub enum Message {
     OldStdout,
     /// The length isn't made of cells.
     NotCells(usize),
+    /// This cell, which wants a phandle, is no reference in the source.
+    NotAReference(usize),
     /// No node has the phandle in this cell.
     NoNode(usize),
     /// The node at this place, which this cell refers to, lacks the property that says how many cells follow.

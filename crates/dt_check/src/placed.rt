@@ -39,8 +39,9 @@ impl<'t> Placed<'t> {
     ghost use Rattle.std.specs.Prelude.{◌≡◌};
     ghost use Rattle.dt_check.specs.Buses.{is_spi};
     ghost use Rattle.dt_check.specs.Ports.{is_port};
-    ghost use Rattle.std.specs.Prelude.{false};
+    ghost use Rattle.std.specs.Prelude.{ℕ, List, false};
     ghost use Rattle.dt_check.specs.Cells.{has};
+    ghost use Rattle.dt_check.specs.Private.Marks.{class_of};
 
     /// The node at its place.
     pub fn new(node: &'t Node, above: Option<usize>) -> Self
@@ -83,10 +84,11 @@ impl<'t> Placed<'t> {
         self.spi
     }
 
-    /// Whether the node may have a property of this name: a quick look.
-    pub fn may_have(&self, name: &[u8]) -> bool
-        ensures { result ≡ false → has self.now.node.properties name.now ≡ false }
+    /// Whether the node may have a property whose name has this class: a quick look.
+    pub fn may_have(&self, class: usize) -> bool
+        ensures { result ≡ false → (name : List ℕ) → class_of name ≡ class
+            → has self.now.node.properties name ≡ false }
     {
-        self.marks.may_have(name)
+        self.marks.may_have(class)
     }
 }

@@ -1,5 +1,5 @@
 //! A tree's nodes, each found by its place or its phandle.
-ghost use Rattle.std.specs.Prelude.{◌≡◌, ◌<◌, ℕ, nat_eq, length, IfOk, OnOk, None};
+ghost use Rattle.std.specs.Prelude.{◌≡◌, ◌<◌, ℕ, nat_eq, length, take, IfOk, OnOk, None};
 ghost use Rattle.std.specs.Option.{option_copied};
 ghost use Rattle.dt_tree.specs.Phandle.{or_else};
 ghost use Rattle.indexmap.specs.IndexMap.{get};
@@ -76,6 +76,22 @@ impl<'t> Survey<'t> {
         ensures { IfOk result (λ survey. survey ≡ tree_nodes tree.now.root) }
     {
         let nodes = nodes_of(alloc, tree.root())?;
+        let mut places = IndexMap::with_hasher(alloc, hasher);
+        keep_places(&mut places, nodes.as_slice())?;
+        Ok(Self { nodes, places })
+    }
+
+    /// Of so many nodes of a tree, the first in preorder.
+    pub fn of_first(
+        alloc: Global,
+        hasher: RandomState,
+        tree: &'t Tree,
+        count: usize,
+    ) -> Result<Self, AllocError>
+        ensures { IfOk result (λ survey. survey ≡ take count (tree_nodes tree.now.root)) }
+    {
+        let mut nodes = nodes_of(alloc, tree.root())?;
+        nodes.truncate(count);
         let mut places = IndexMap::with_hasher(alloc, hasher);
         keep_places(&mut places, nodes.as_slice())?;
         Ok(Self { nodes, places })

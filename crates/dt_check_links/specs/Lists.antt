@@ -1,12 +1,12 @@
 -- Lists of phandles with specifiers (Devicetree Specification v0.4, sections 2.3.3 and 2.5; the bindings of Linux, one of each list):
 -- behind each phandle stand as many cells as a property of its node says. An entry may be left empty by 0; one
--- of all ones is left to the base of a plugin, as are those behind it.
-use Rattle.std.specs.Prelude.{ℕ, ◌+◌, ◌-◌, Bool, not, ◌||◌, ◌==◌, nat_lt, if◌then◌else◌, List, [], ◌∷◌, length, Option, Some, None, option_and_then, Result, Ok, Err}
-use Rattle.std.specs.Option.{option_map_or}
-use Rattle.std.specs.Str.{bytes_eq}
+-- of all ones is left to the base of a plugin, as are those behind it. What is no reference is told, and looked at all the same.
+use Rattle.std.specs.Prelude.{ℕ, ◌+◌, ◌-◌, ◌*◌, Bool, true, false, not, ◌||◌, ◌==◌, nat_lt, if◌then◌else◌}
+use Rattle.std.specs.Prelude.{List, [], ◌∷◌, ◌++◌, length, Option, Some, None, Result, Ok, Err}
+use Rattle.std.specs.Option.{option_map, option_map_or}
 use Rattle.dt_tree.specs.declared.property.Property.{Property}
 use Rattle.dt_tree.specs.Cell.{cell_in}
-use Rattle.dt_check.specs.declared.message.Message.TheVariants.{NotCells, NoNode, NoCells, TooShort}
+use Rattle.dt_check.specs.declared.message.Message.TheVariants.{NotCells, NotAReference, NoNode, NoCells, TooShort}
 use Rattle.dt_check.specs.Cells.{cells_of, is_multiple}
 use Rattle.dt_check.specs.Fault.{FaultData, of_node, of_property}
 use Rattle.dt_check.specs.Nodes.{PlacedData, value_at, place_with}
@@ -36,25 +36,46 @@ entry nodes l p cell left number =
     if is_no_phandle number then Ok 0
     else option_map_or (entry_to nodes l p cell left) (place_with nodes number) (Err (of_property p.name (NoNode cell)))
 
-abbrev pub fault_or : Result ℕ FaultData → (ℕ → Option FaultData) → Option FaultData
-fault_or (Err f) next = Some f
-fault_or (Ok cells) next = next cells
+-- ---- references
+-- In a source a phandle wants to be a reference (dtc 1.6.1, tried by hand): of a value these stand at so many bytes, in order.
+-- Those that don't stand before this byte:
+abbrev pub from_byte : ℕ → List ℕ → List ℕ
+from_byte byte [] = []
+from_byte byte (at ∷ more) = if nat_lt at byte then from_byte byte more else at ∷ more
 
--- the first fault of these cells, of which so many at the front still belong to the entry before; the first of them has this number
-abbrev pub entries_fault : List PlacedData → ListingData → Property → ℕ → ℕ → List ℕ → Option FaultData
-entries_fault nodes l p skipped cell [] = None
-entries_fault nodes l p skipped cell (number ∷ more) =
+-- those that don't stand before this cell: none are known of a tree without a source
+abbrev pub from_cell : ℕ → Option (List ℕ) → Option (List ℕ)
+from_cell cell references = option_map (from_byte (4 * cell)) references
+
+abbrev pub begins_at : ℕ → List ℕ → Bool
+begins_at byte [] = false
+begins_at byte (at ∷ more) = at == byte
+
+-- whether this cell is one, by those that don't stand before it
+abbrev pub is_reference : ℕ → Option (List ℕ) → Bool
+is_reference cell references = option_map_or (begins_at (4 * cell)) references true
+
+abbrev pub no_reference : Option (List ℕ) → Property → ℕ → ℕ → List FaultData
+no_reference references p cell number =
+    if is_no_phandle number || is_reference cell references then [] else of_property p.name (NotAReference cell) ∷ []
+
+-- ---- the list
+abbrev pub faults_or : Result ℕ FaultData → (ℕ → List FaultData) → List FaultData
+faults_or (Err f) next = f ∷ []
+faults_or (Ok cells) next = next cells
+
+-- the faults of these cells, of which so many at the front still belong to the entry before; the first of them has this number
+abbrev pub entries_faults : List PlacedData → ListingData → Option (List ℕ) → Property → ℕ → ℕ → List ℕ → List FaultData
+entries_faults nodes l references p skipped cell [] = []
+entries_faults nodes l references p skipped cell (number ∷ more) =
     if skipped == 0
-    then (if number == 4294967295 then None
-    else fault_or (entry nodes l p cell (length more) number) (λ cells. entries_fault nodes l p cells (cell + 1) more))
-    else entries_fault nodes l p (skipped - 1) (cell + 1) more
+    then (if number == 4294967295 then []
+    else no_reference (from_cell cell references) p cell number
+    ++ faults_or (entry nodes l p cell (length more) number)
+    (λ cells. entries_faults nodes l (from_cell cell references) p cells (cell + 1) more))
+    else entries_faults nodes l references p (skipped - 1) (cell + 1) more
 
-abbrev pub list_fault : List PlacedData → ListingData → Property → Option FaultData
-list_fault nodes l p =
-    if not (is_multiple (length p.value) 4) then Some (of_property p.name (NotCells (length p.value)))
-    else entries_fault nodes l p 0 0 (cells_of p.value)
-
--- of the property of this name
-abbrev pub named_fault : List PlacedData → ListingData → List ℕ → List Property → Option FaultData
-named_fault nodes l name [] = None
-named_fault nodes l name (p ∷ ps) = if bytes_eq p.name name then list_fault nodes l p else named_fault nodes l name ps
+abbrev pub list_faults : List PlacedData → ListingData → Option (List ℕ) → Property → List FaultData
+list_faults nodes l references p =
+    if not (is_multiple (length p.value) 4) then of_property p.name (NotCells (length p.value)) ∷ []
+    else entries_faults nodes l references p 0 0 (cells_of p.value)

@@ -17,5 +17,5 @@ pub use graph::{
 };
 pub use interrupts::{Way, cells_fault, length_fault, missing_fault, search, search_fault};
 pub use link::LinkFault;
-pub use lists::{Listing, list_fault, named_fault};
+pub use lists::{Listing, list_faults};
 pub use phandles::{different_fault, phandle_fault, twice_fault};

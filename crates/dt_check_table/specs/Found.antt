@@ -1,5 +1,9 @@
--- What a check finds in a tree, but for nodes side by side with one unit address and unknown properties: node by node in preorder, in each node rule by rule, or property by property.
-use Rattle.std.specs.Prelude.{ℕ, ◌+◌, Bool, true, false, not, ◌||◌, ◌==◌, length, codes, if◌then◌else◌, List, [], ◌∷◌, ◌++◌, Option, Some, None, option_and_then}
+-- What a check finds in a tree, and in the source that it was made of, but for nodes side by side with one unit address and
+-- unknown properties: node by node in preorder, in each node rule by rule, or property by property.
+use Rattle.std.specs.Prelude.{ℕ, ◌+◌, Bool, true, false, not, ◌||◌, ◌==◌, length, codes, if◌then◌else◌}
+use Rattle.std.specs.Prelude.{List, [], ◌∷◌, ◌++◌, Option, Some, None, option_and_then}
+use Rattle.std.specs.Option.{option_map}
+use Rattle.std.specs.Str.{bytes_eq}
 use Rattle.dt_tree.specs.NodeData.{nodes_of}
 use Rattle.dt_tree.specs.declared.property.Property.{Property}
 use Rattle.dt_check.specs.Cells.{has}
@@ -10,11 +14,18 @@ use Rattle.dt_check.specs.UnitRules.{has_unit}
 use Rattle.dt_check_links.specs.Aliases.{alias_fault}
 use Rattle.dt_check_links.specs.Graph.{is_of}
 use Rattle.dt_check_links.specs.Link.{LinkFaultData}
-use Rattle.dt_check_links.specs.Lists.{ListingData, list_fault}
+use Rattle.dt_check_links.specs.ListingView.{listing_data}
+use Rattle.dt_check_links.specs.Lists.{list_faults}
+use Rattle.dt_check_links.specs.declared.lists.Listing.{Listing}
+use Rattle.dt_making.specs.Places.{references_in}
+use Rattle.dt_making.specs.declared.places.Places.{Places}
 use Rattle.dt_check_table.specs.declared.check.Among.{Among}
-use Rattle.dt_check_table.specs.declared.check.Among.TheVariants.{All, With, WithEither, Part, Named, Parents, WithUnit}
+use Rattle.dt_check_table.specs.declared.check.Among.TheVariants.{All, With, WithEither, Part, Named as Called, Parents, WithUnit}
 use Rattle.dt_check_table.specs.declared.check.Finds.{Finds}
-use Rattle.dt_check_table.specs.declared.check.Finds.TheVariants.{Nothing, Units, Unknown, Node, Properties, Links, Gpios, Aliases}
+use Rattle.dt_check_table.specs.declared.check.Finds.TheVariants.{Nothing, Units, Unknown}
+use Rattle.dt_check_table.specs.declared.check.Finds.TheVariants.{Node, Properties, Links, Lists, Aliases}
+use Rattle.dt_check_table.specs.declared.check.Listed.{Listed}
+use Rattle.dt_check_table.specs.declared.check.Listed.TheVariants.{Named, Lines}
 use Rattle.dt_check_table.specs.declared.rule.LinkRule.{LinkRule}
 use Rattle.dt_check_table.specs.declared.rule.PropertyRule.{PropertyRule}
 use Rattle.dt_check_table.specs.declared.rule.Rule.{Rule}
@@ -41,16 +52,37 @@ abbrev pub found_by_links : ℕ → List PlacedData → ℕ → HereData → Lis
 found_by_links check nodes place here [] = []
 found_by_links check nodes place here (r ∷ rs) = added_link check (link_fault r nodes here place) ++ found_by_links check nodes place here rs
 
--- the lists of lines of GPIO controllers (bindings gpio/gpio.txt of Linux)
-abbrev pub lines_listing : ListingData
-lines_listing = record { cells = codes "#gpio-cells"; optional = false }
+-- ---- lists of phandles
+-- of lines of GPIO controllers: bindings gpio/gpio.txt of Linux
+abbrev pub is_listed : Listed → List ℕ → Bool
+is_listed (Named wanted) name = bytes_eq name wanted.now
+is_listed Lines name = is_gpio name
 
-abbrev pub lines_fault : List PlacedData → Property → Option FaultData
-lines_fault nodes p = if not (is_gpio p.name) then None else list_fault nodes lines_listing p
+-- those that a node looks at: the lines of a hog are no list
+abbrev pub has_lists : Listed → HereData → Bool
+has_lists (Named wanted) here = true
+has_lists Lines here = not (has here.node.properties (codes "gpio-hog"))
 
-abbrev pub found_lines : ℕ → List PlacedData → ℕ → List Property → List FindingData
-found_lines check nodes place [] = []
-found_lines check nodes place (p ∷ ps) = added check place (lines_fault nodes p) ++ found_lines check nodes place ps
+-- the references in a property's value, where there is a source
+abbrev pub references_at : Option Places → ℕ → ℕ → Option (List ℕ)
+references_at written place index = option_map (λ p. references_in p place index) written
+
+abbrev pub added_all : ℕ → ℕ → List FaultData → List FindingData
+added_all check place [] = []
+added_all check place (f ∷ fs) = finding check place f ∷ added_all check place fs
+
+abbrev pub found_in_list : ℕ → Listed → Listing → List PlacedData → Option Places → ℕ → ℕ → Property → List FindingData
+found_in_list check listed listing nodes written place index p =
+    if is_listed listed p.name
+    then added_all check place (list_faults nodes (listing_data listing) (references_at written place index) p)
+    else []
+
+-- in these properties, the first of which has this number
+abbrev pub found_in_lists : ℕ → Listed → Listing → List PlacedData → Option Places → ℕ → ℕ → List Property → List FindingData
+found_in_lists check listed listing nodes written place index [] = []
+found_in_lists check listed listing nodes written place index (p ∷ ps) =
+    found_in_list check listed listing nodes written place index p
+    ++ found_in_lists check listed listing nodes written place (index + 1) ps
 
 -- aliases, in the tree of the first node
 abbrev pub alias_fault_in : List PlacedData → Property → Option FaultData
@@ -66,30 +98,32 @@ is_among All here = true
 is_among (With name) here = has here.node.properties name.now
 is_among (WithEither name other) here = has here.node.properties name.now || has here.node.properties other.now
 is_among (Part kind) here = is_of kind here
-is_among (Named name) here = is_named name.now here.node
+is_among (Called name) here = is_named name.now here.node
 is_among Parents here = not (length (nodes_of here.node.children) == 0)
 is_among WithUnit here = has_unit here.node
 
--- in one node; the lines of a hog are no list
-abbrev pub found_here : ℕ → Finds → List PlacedData → ℕ → HereData → List FindingData
-found_here check Nothing nodes place here = []
-found_here check (Units counted) nodes place here = []
-found_here check Unknown nodes place here = []
-found_here check (Node among rules) nodes place here =
+-- in one node
+abbrev pub found_here : ℕ → Finds → List PlacedData → Option Places → ℕ → HereData → List FindingData
+found_here check Nothing nodes written place here = []
+found_here check (Units counted) nodes written place here = []
+found_here check Unknown nodes written place here = []
+found_here check (Node among rules) nodes written place here =
     if is_among among here then found_by_rules check place here rules.now else []
-found_here check (Properties rule) nodes place here = found_in_properties check place rule here.node.properties
-found_here check (Links among rules) nodes place here =
+found_here check (Properties rule) nodes written place here =
+    found_in_properties check place rule here.node.properties
+found_here check (Links among rules) nodes written place here =
     if is_among among here then found_by_links check nodes place here rules.now else []
-found_here check Gpios nodes place here =
-    if has here.node.properties (codes "gpio-hog") then [] else found_lines check nodes place here.node.properties
-found_here check Aliases nodes place here =
+found_here check (Lists listed listing) nodes written place here =
+    if not (has_lists listed here) then []
+    else found_in_lists check listed listing nodes written place 0 here.node.properties
+found_here check Aliases nodes written place here =
     if not (is_named (codes "aliases") here.node) then [] else found_aliases check nodes place here.node.properties
 
 -- in these nodes, the first of which has this place
-abbrev pub found_from : ℕ → Finds → List PlacedData → ℕ → List PlacedData → List FindingData
-found_from check finds nodes place [] = []
-found_from check finds nodes place (p ∷ ps) =
-    found_here check finds nodes place (here_of nodes p) ++ found_from check finds nodes (place + 1) ps
+abbrev pub found_from : ℕ → Finds → List PlacedData → Option Places → ℕ → List PlacedData → List FindingData
+found_from check finds nodes written place [] = []
+found_from check finds nodes written place (p ∷ ps) =
+    found_here check finds nodes written place (here_of nodes p) ++ found_from check finds nodes written (place + 1) ps
 
-abbrev pub found : ℕ → Finds → List PlacedData → List FindingData
-found check finds nodes = found_from check finds nodes 0 nodes
+abbrev pub found : ℕ → Finds → List PlacedData → Option Places → List FindingData
+found check finds nodes written = found_from check finds nodes written 0 nodes

@@ -1,5 +1,6 @@
 pub mod Finding
 pub mod Found
+pub mod Private
 pub mod Rules
 pub mod Run
 pub mod Selected

@@ -20,11 +20,9 @@ use Rattle.dt_check_links.specs.Endpoint.{near_fault, far_fault, one_way_fault}
 use Rattle.dt_check_links.specs.Graph.{single_child_fault, graph_name_fault, graph_reg_fault, graph_unit_fault, graph_address_fault, graph_size_fault}
 use Rattle.dt_check_links.specs.Interrupts.{length_fault, search_fault, missing_fault, cells_fault}
 use Rattle.dt_check_links.specs.Link.{LinkFaultData, at_node}
-use Rattle.dt_check_links.specs.ListingView.{listing_data}
-use Rattle.dt_check_links.specs.Lists.{named_fault}
 use Rattle.dt_check_links.specs.Phandles.{phandle_fault, different_fault, twice_fault}
 use Rattle.dt_check_table.specs.declared.rule.LinkRule.{LinkRule}
-use Rattle.dt_check_table.specs.declared.rule.LinkRule.TheVariants.{Phandle, PhandlesDiffer, PhandleTwice, Specifiers, InterruptLength, InterruptWay, NoInterruptParent, InterruptCells, SingleChild, GraphName, GraphReg, GraphUnit, GraphAddress, GraphSize, NearEnd, FarEnd, OneWay}
+use Rattle.dt_check_table.specs.declared.rule.LinkRule.TheVariants.{Phandle, PhandlesDiffer, PhandleTwice, InterruptLength, InterruptWay, NoInterruptParent, InterruptCells, SingleChild, GraphName, GraphReg, GraphUnit, GraphAddress, GraphSize, NearEnd, FarEnd, OneWay}
 use Rattle.dt_check_table.specs.declared.rule.PropertyRule.{PropertyRule}
 use Rattle.dt_check_table.specs.declared.rule.PropertyRule.TheVariants.{Names, Byte, StrictByte, Gpio}
 use Rattle.dt_check_table.specs.declared.rule.Rule.{Rule}
@@ -95,7 +93,6 @@ abbrev pub here_fault : LinkRule → List PlacedData → HereData → ℕ → Op
 here_fault (Phandle name) nodes here place = phandle_fault name.now here
 here_fault PhandlesDiffer nodes here place = different_fault here
 here_fault PhandleTwice nodes here place = twice_fault nodes here place
-here_fault (Specifiers name listing) nodes here place = named_fault nodes (listing_data listing) name.now here.node.properties
 here_fault InterruptLength nodes here place = None
 here_fault InterruptWay nodes here place = None
 here_fault NoInterruptParent nodes here place = None
@@ -114,7 +111,6 @@ abbrev pub link_fault : LinkRule → List PlacedData → HereData → ℕ → Op
 link_fault (Phandle name) nodes here place = near_here place (here_fault (Phandle name) nodes here place)
 link_fault PhandlesDiffer nodes here place = near_here place (here_fault PhandlesDiffer nodes here place)
 link_fault PhandleTwice nodes here place = near_here place (here_fault PhandleTwice nodes here place)
-link_fault (Specifiers name listing) nodes here place = near_here place (here_fault (Specifiers name listing) nodes here place)
 link_fault InterruptLength nodes here place = length_fault nodes place
 link_fault InterruptWay nodes here place = search_fault nodes place
 link_fault NoInterruptParent nodes here place = missing_fault nodes place

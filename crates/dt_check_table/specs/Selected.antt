@@ -1,7 +1,7 @@
 -- Which checks are asked for (dtc's manual, Documentation/manual.txt, section 'Command-line arguments', -W and -E; the names are said by
 -- `dtc -W`): a check warns, is an error, or neither. With one that is asked for go those that it stands on; with one that isn't, those
 -- that stand on it.
-use Rattle.std.specs.Prelude.{ℕ, ◌+◌, Bool, true, false, not, ◌||◌, ◌==◌, if◌then◌else◌, List, [], ◌∷◌, Option, Some, None}
+use Rattle.std.specs.Prelude.{ℕ, ◌+◌, Bool, true, false, not, ◌&&◌, ◌||◌, ◌==◌, if◌then◌else◌, List, [], ◌∷◌, Option, Some, None}
 use Rattle.std.specs.Option.{option_map_or}
 use Rattle.std.specs.List.{slice_get, list_any}
 use Rattle.dt_check_table.specs.declared.check.Check.{Check}
@@ -73,3 +73,17 @@ changed c s =
 abbrev pub is_asked : Least → Level → Bool
 is_asked AtLeastWarning l = l.warns || l.fails
 is_asked AtLeastError l = l.fails
+
+-- whether a check is asked for and stands on that at a place
+abbrev pub asks_for : Least → List Level → ℕ → ℕ → Check → Bool
+asks_for least ls place above row = is_asked least (level_at ls above) && is_among row.made_before.now place
+
+-- whether one of these checks does, the first of which has this place
+abbrev pub any_asks_for : Least → List Level → ℕ → ℕ → List Check → Bool
+any_asks_for least ls place above [] = false
+any_asks_for least ls place above (r ∷ rs) =
+    asks_for least ls place above r || any_asks_for least ls place (above + 1) rs
+
+-- whether a check is made: where it is asked for, or one that stands on it
+abbrev pub is_due : Least → SelectionData → ℕ → Bool
+is_due least s place = is_asked least (level_at s.levels place) || any_asks_for least s.levels place 0 s.rows

@@ -3,6 +3,7 @@
 use crate::rule::{LinkRule, PropertyRule, Rule};
 use crate::units::Counted;
 use dt_check::Graph;
+use dt_check_links::Listing;
 
 /// What a mistake comes to, where nothing else is said.
 #[derive(Clone, Copy, Debug, PartialEq, Eq)]
@@ -31,6 +32,15 @@ pub enum Among {
     WithUnit,
 }
 
+/// Which lists of phandles a check looks into.
+#[derive(Clone, Copy, Debug)]
+pub enum Listed {
+    /// That of this name.
+    Named(&'static [u8]),
+    /// All of lines of GPIO controllers, but for a hog's own.
+    Lines,
+}
+
 /// What a check looks for.
 #[derive(Clone, Copy, Debug)]
 pub enum Finds {
@@ -46,8 +56,8 @@ pub enum Finds {
     Properties(PropertyRule),
     /// In each of these nodes and those that it leads to, one rule after the other.
     Links(Among, &'static [LinkRule]),
-    /// In each list of lines of GPIO controllers.
-    Gpios,
+    /// In these lists: what stands behind each phandle.
+    Lists(Listed, Listing),
     /// In each alias.
     Aliases,
 }

@@ -1,17 +1,25 @@
 //! What a check finds in a tree.
 ghost use Rattle.std.specs.Prelude.{◌≡◌, ◌++◌, [], false, ℕ, List, Option, OnOk};
+ghost use Rattle.std.specs.Option.{option_copied};
 ghost use Rattle.dt_tree.specs.NodeData.{NodeData};
 ghost use Rattle.dt_check.specs.Nodes.{PlacedData, here_of};
 ghost use Rattle.dt_check.specs.UnitRules.{has_unit};
-ghost use Rattle.dt_check_table.specs.Found.{added, added_link, found_by_rules, found_in_properties, found_by_links, lines_fault, found_lines, alias_fault_in, found_aliases, is_among, found_here, found_from, found};
+ghost use Rattle.dt_check_links.specs.declared.lists.Listing.{Listing};
+ghost use Rattle.dt_making.specs.declared.places.Places.{Places};
+ghost use Rattle.dt_check_table.specs.Found.{added, added_link, found_by_rules, found_in_properties, found_by_links};
+ghost use Rattle.dt_check_table.specs.Found.{added_all, is_listed, has_lists, references_at, found_in_list, found_in_lists};
+ghost use Rattle.dt_check_table.specs.Private.Classes.{classes_among, classes_listed, classes_of};
+ghost use Rattle.dt_check_table.specs.Found.{alias_fault_in, found_aliases, is_among, found_here, found_from, found};
 
-use crate::check::{Among, Finds};
+use crate::check::{Among, Finds, Listed};
 use crate::finding::Finding;
 use crate::rule::{LinkRule, PropertyRule, Rule};
+use crate::subject::Subject;
 use dt_check::{
-    Fault, Graph, Here, Placed, Survey, children, has, is_gpio, is_named, unit_address,
+    Fault, Graph, Here, Placed, Survey, children, class_of, has, is_gpio, is_named, unit_address,
 };
-use dt_check_links::{LinkFault, Listing, alias_fault, is_of, list_fault};
+use dt_check_links::{LinkFault, Listing, alias_fault, is_of, list_faults};
+use dt_making::Places;
 use dt_tree::{Node, Property};
 use std::alloc::AllocError;
 
@@ -98,31 +106,97 @@ fn find_by_links<'t>(
     Ok(())
 }
 
-fn lines_fault<'t>(survey: &Survey<'_>, property: &'t Property) -> Option<Fault<'t>>
-    ensures { result ≡ lines_fault survey.now property.now }
-{
-    if !is_gpio(property.name.as_bytes()) {
-        return None;
-    }
-    let listing = Listing {
-        cells: b"#gpio-cells",
-        optional: false,
-    };
-    list_fault(survey, listing, property)
-}
-
-fn find_lines<'t>(
+fn add_all<'t>(
     findings: &mut Vec<Finding<'t>>,
     check: usize,
-    survey: &Survey<'t>,
-    properties: &'t [Property],
     place: usize,
+    faults: Vec<Fault<'t>>,
 ) -> Result<(), AllocError>
-    ensures { OnOk result (findings.new.items
-        ≡ findings.old.items ++ found_lines check survey.now place properties.now) }
+    ensures { OnOk result (findings.new.items ≡ findings.old.items ++ added_all check place faults.entry.items) }
 {
-    for property in properties {
-        add(findings, check, place, lines_fault(survey, property))?;
+    for fault in faults {
+        findings.push(Finding::of(check, place, fault))?;
+    }
+    Ok(())
+}
+
+// Whether a check looks into a list of this name.
+fn is_listed(listed: Listed, name: &[u8]) -> bool
+    ensures { result ≡ is_listed listed name.now }
+{
+    match listed {
+        Listed::Named(wanted) => name == wanted,
+        Listed::Lines => is_gpio(name),
+    }
+}
+
+// Whether a node has such lists: a hog's lines are its own, and no list.
+fn has_lists(here: &Here<'_>, listed: Listed) -> bool
+    ensures { result ≡ has_lists listed here.now }
+{
+    match listed {
+        Listed::Named(_) => true,
+        Listed::Lines => !has(here.node(), b"gpio-hog"),
+    }
+}
+
+// The references in a property's value.
+fn references_at(written: Option<&Places>, place: usize, index: usize) -> Option<&[u32]>
+    ensures { option_copied result ≡ references_at (option_copied written.entry) place index }
+{
+    match written {
+        None => None,
+        Some(places) => Some(places.references(place, index)),
+    }
+}
+
+// Lists of a node: which, and what stands in them.
+#[derive(Clone, Copy)]
+struct Lists {
+    listed: Listed,
+    listing: Listing,
+    place: usize,
+}
+
+fn find_in_list<'t>(
+    findings: &mut Vec<Finding<'t>>,
+    check: usize,
+    lists: Lists,
+    subject: Subject<'_, 't>,
+    index: usize,
+    property: &'t Property,
+) -> Result<(), AllocError>
+    ensures { OnOk result (findings.new.items ≡ findings.old.items
+        ++ found_in_list check lists.listed lists.listing subject.entry.survey.now (option_copied subject.entry.written)
+        lists.place index property.now) }
+{
+    if !is_listed(lists.listed, property.name.as_bytes()) {
+        return Ok(());
+    }
+    let references = references_at(subject.written, lists.place, index);
+    let faults = list_faults(
+        subject.alloc,
+        subject.survey,
+        lists.listing,
+        references,
+        property,
+    )?;
+    add_all(findings, check, lists.place, faults)
+}
+
+fn find_in_lists<'t>(
+    findings: &mut Vec<Finding<'t>>,
+    check: usize,
+    lists: Lists,
+    subject: Subject<'_, 't>,
+    properties: &'t [Property],
+) -> Result<(), AllocError>
+    ensures { OnOk result (findings.new.items ≡ findings.old.items
+        ++ found_in_lists check lists.listed lists.listing subject.entry.survey.now (option_copied subject.entry.written)
+        lists.place 0 properties.now) }
+{
+    for (index, property) in properties.iter().enumerate() {
+        find_in_list(findings, check, lists, subject, index, property)?;
     }
     Ok(())
 }
@@ -174,17 +248,17 @@ fn is_among(here: &Here<'_>, among: Among) -> bool
     }
 }
 
-// What it finds in a node: a hog's lines are its own, and no list.
+// What it finds in a node.
 fn find_here<'t>(
     findings: &mut Vec<Finding<'t>>,
     check: usize,
     finds: Finds,
-    survey: &Survey<'t>,
+    subject: Subject<'_, 't>,
     here: &Here<'t>,
     place: usize,
 ) -> Result<(), AllocError>
-    ensures { OnOk result (findings.new.items
-        ≡ findings.old.items ++ found_here check finds survey.now place here.now) }
+    ensures { OnOk result (findings.new.items ≡ findings.old.items
+        ++ found_here check finds subject.entry.survey.now (option_copied subject.entry.written) place here.now) }
 {
     let node = here.node();
     match finds {
@@ -202,31 +276,96 @@ fn find_here<'t>(
             if !is_among(here, among) {
                 return Ok(());
             }
-            find_by_links(findings, check, rules, survey, here, place)
+            find_by_links(findings, check, rules, subject.survey, here, place)
         }
-        Finds::Gpios => {
-            if has(node, b"gpio-hog") {
+        Finds::Lists(listed, listing) => {
+            if !has_lists(here, listed) {
                 return Ok(());
             }
-            find_lines(findings, check, survey, node.properties(), place)
+            let lists = Lists {
+                listed,
+                listing,
+                place,
+            };
+            find_in_lists(findings, check, lists, subject, node.properties())
         }
         Finds::Aliases => {
             if !is_named(node, b"aliases") {
                 return Ok(());
             }
-            find_aliases(findings, check, survey, node.properties(), place)
+            find_aliases(findings, check, subject.survey, node.properties(), place)
         }
     }
 }
 
+// The classes of the names that a check asks nodes for, for a quick look at each: of one name twice, of none 0.
+#[derive(Clone, Copy)]
+pub(crate) struct Classes {
+    first: usize,
+    second: usize,
+}
+
+fn classes_among(among: Among) -> Classes
+    ensures { result ≡ classes_among among }
+{
+    match among {
+        Among::With(name) => Classes {
+            first: class_of(name),
+            second: class_of(name),
+        },
+        Among::WithEither(name, other) => Classes {
+            first: class_of(name),
+            second: class_of(other),
+        },
+        Among::All | Among::Part(_) | Among::Named(_) | Among::Parents | Among::WithUnit =>
+            Classes {
+                first: 0,
+                second: 0,
+            },
+    }
+}
+
+fn classes_listed(listed: Listed) -> Classes
+    ensures { result ≡ classes_listed listed }
+{
+    match listed {
+        Listed::Named(name) => Classes {
+            first: class_of(name),
+            second: class_of(name),
+        },
+        Listed::Lines => Classes {
+            first: 0,
+            second: 0,
+        },
+    }
+}
+
+fn classes_of(finds: Finds) -> Classes
+    ensures { result ≡ classes_of finds }
+{
+    match finds {
+        Finds::Node(among, _) | Finds::Links(among, _) => classes_among(among),
+        Finds::Lists(listed, _) => classes_listed(listed),
+        Finds::Nothing | Finds::Units(_) | Finds::Unknown | Finds::Properties(_) | Finds::Aliases =>
+            {
+                Classes {
+                    first: 0,
+                    second: 0,
+                }
+            }
+    }
+}
+
 // A quick look whether a check of these nodes may look at one.
-fn may_be_among(placed: &Placed<'_>, among: Among) -> bool
+fn may_be_among(placed: &Placed<'_>, among: Among, classes: Classes) -> bool
+    requires { classes ≡ classes_among among }
     ensures { result ≡ false → (above : Option NodeData)
         → is_among among (record { node = placed.now.node; above = above }) ≡ false }
 {
     match among {
-        Among::With(name) => placed.may_have(name),
-        Among::WithEither(name, other) => placed.may_have(name) || placed.may_have(other),
+        Among::With(_) => placed.may_have(classes.first),
+        Among::WithEither(_, _) => placed.may_have(classes.first)
+            || placed.may_have(classes.second),
         Among::All | Among::Part(Graph::Endpoint) => true,
         Among::Part(Graph::Port) => placed.is_port(),
         Among::Named(name) => is_named(placed.node(), name),
@@ -235,15 +374,30 @@ fn may_be_among(placed: &Placed<'_>, among: Among) -> bool
     }
 }
 
+// A quick look whether a node may have such lists.
+fn may_have_lists(placed: &Placed<'_>, listed: Listed, classes: Classes) -> bool
+    requires { classes ≡ classes_listed listed }
+    ensures { result ≡ false
+        → (check : ℕ) (listing : Listing) (nodes : List PlacedData) (written : Option Places) (place index : ℕ)
+        → found_in_lists check listed listing nodes written place index placed.now.node.properties ≡ [] }
+{
+    match listed {
+        Listed::Named(_) => placed.may_have(classes.first),
+        Listed::Lines => true,
+    }
+}
+
 // A quick look whether a check may find something in a node.
-fn may_find(placed: &Placed<'_>, finds: Finds) -> bool
-    ensures { result ≡ false → (check : ℕ) (nodes : List PlacedData) (place : ℕ)
-        → found_here check finds nodes place (here_of nodes placed.now) ≡ [] }
+fn may_find(placed: &Placed<'_>, finds: Finds, classes: Classes) -> bool
+    requires { classes ≡ classes_of finds }
+    ensures { result ≡ false → (check : ℕ) (nodes : List PlacedData) (written : Option Places) (place : ℕ)
+        → found_here check finds nodes written place (here_of nodes placed.now) ≡ [] }
 {
     match finds {
-        Finds::Node(among, _) | Finds::Links(among, _) => may_be_among(placed, among),
+        Finds::Node(among, _) | Finds::Links(among, _) => may_be_among(placed, among, classes),
+        Finds::Lists(listed, _) => may_have_lists(placed, listed, classes),
         Finds::Nothing | Finds::Units(_) | Finds::Unknown => false,
-        Finds::Properties(_) | Finds::Gpios | Finds::Aliases => true,
+        Finds::Properties(_) | Finds::Aliases => true,
     }
 }
 
@@ -251,31 +405,42 @@ fn find_at<'t>(
     findings: &mut Vec<Finding<'t>>,
     check: usize,
     finds: Finds,
-    survey: &Survey<'t>,
+    classes: Classes,
+    subject: Subject<'_, 't>,
     placed: &Placed<'t>,
     place: usize,
 ) -> Result<(), AllocError>
-    ensures { OnOk result (findings.new.items
-        ≡ findings.old.items ++ found_here check finds survey.now place (here_of survey.now placed.now)) }
+    requires { classes ≡ classes_of finds }
+    ensures { OnOk result (findings.new.items ≡ findings.old.items
+        ++ found_here check finds subject.entry.survey.now (option_copied subject.entry.written) place
+        (here_of subject.entry.survey.now placed.now)) }
 {
-    if !may_find(placed, finds) {
+    if !may_find(placed, finds, classes) {
         return Ok(());
     }
-    find_here(findings, check, finds, survey, &survey.here(placed), place)
+    find_here(
+        findings,
+        check,
+        finds,
+        subject,
+        &subject.survey.here(placed),
+        place,
+    )
 }
 
 fn find_in<'t>(
     findings: &mut Vec<Finding<'t>>,
     check: usize,
     finds: Finds,
-    survey: &Survey<'t>,
+    subject: Subject<'_, 't>,
     nodes: &[Placed<'t>],
 ) -> Result<(), AllocError>
-    ensures { OnOk result (findings.new.items
-        ≡ findings.old.items ++ found_from check finds survey.now 0 nodes.now) }
+    ensures { OnOk result (findings.new.items ≡ findings.old.items
+        ++ found_from check finds subject.entry.survey.now (option_copied subject.entry.written) 0 nodes.now) }
 {
+    let classes = classes_of(finds);
     for (place, placed) in nodes.iter().enumerate() {
-        find_at(findings, check, finds, survey, placed, place)?;
+        find_at(findings, check, finds, classes, subject, placed, place)?;
     }
     Ok(())
 }
@@ -285,9 +450,10 @@ pub fn find<'t>(
     findings: &mut Vec<Finding<'t>>,
     check: usize,
     finds: Finds,
-    survey: &Survey<'t>,
+    subject: Subject<'_, 't>,
 ) -> Result<(), AllocError>
-    ensures { OnOk result (findings.new.items ≡ findings.old.items ++ found check finds survey.now) }
+    ensures { OnOk result (findings.new.items ≡ findings.old.items
+        ++ found check finds subject.entry.survey.now (option_copied subject.entry.written)) }
 {
-    find_in(findings, check, finds, survey, survey.as_slice())
+    find_in(findings, check, finds, subject, subject.survey.as_slice())
 }

@@ -13,7 +13,7 @@ pub struct Row<'r> {
 
 /// Rows side by side: the place of the first, and the one behind the last.
 #[derive(Clone, Copy, Debug)]
-pub struct Places {
+pub struct RowRange {
     pub first: usize,
     pub end: usize,
 }
@@ -100,8 +100,8 @@ impl<'r> Reference<'r> {
     }
 
     /// The places of the rows of a list.
-    pub fn places_of(&self, compatible: &[u8]) -> Places {
-        Places {
+    pub fn places_of(&self, compatible: &[u8]) -> RowRange {
+        RowRange {
             first: count_before(self.rows.as_slice(), compatible),
             end: count_with(self.rows.as_slice(), compatible),
         }

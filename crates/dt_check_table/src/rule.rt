@@ -13,10 +13,9 @@ use dt_check::{
     string_fault, string_list_fault, two_cells_fault, unit_fault, unnecessary_fault, zero_fault,
 };
 use dt_check_links::{
-    LinkFault, Listing, cells_fault, different_fault, far_fault, graph_address_fault,
-    graph_name_fault, graph_reg_fault, graph_size_fault, graph_unit_fault, length_fault,
-    missing_fault, named_fault, near_fault, one_way_fault, phandle_fault, search_fault,
-    single_child_fault, twice_fault,
+    LinkFault, cells_fault, different_fault, far_fault, graph_address_fault, graph_name_fault,
+    graph_reg_fault, graph_size_fault, graph_unit_fault, length_fault, missing_fault, near_fault,
+    one_way_fault, phandle_fault, search_fault, single_child_fault, twice_fault,
 };
 use dt_tree::Property;
 
@@ -83,7 +82,6 @@ pub enum LinkRule {
     Phandle(&'static [u8]),
     PhandlesDiffer,
     PhandleTwice,
-    Specifiers(&'static [u8], Listing),
     InterruptLength,
     InterruptWay,
     NoInterruptParent,
@@ -197,7 +195,6 @@ impl LinkRule {
             LinkRule::Phandle(name) => phandle_fault(here, name),
             LinkRule::PhandlesDiffer => different_fault(here),
             LinkRule::PhandleTwice => twice_fault(survey, here, place),
-            LinkRule::Specifiers(name, listing) => named_fault(survey, listing, here.node(), name),
             LinkRule::SingleChild => single_child_fault(here),
             LinkRule::GraphName(kind) => graph_name_fault(here, kind),
             LinkRule::GraphReg(kind) => graph_reg_fault(here, kind),
@@ -234,7 +231,6 @@ impl LinkRule {
             LinkRule::Phandle(_)
             | LinkRule::PhandlesDiffer
             | LinkRule::PhandleTwice
-            | LinkRule::Specifiers(_, _)
             | LinkRule::SingleChild
             | LinkRule::GraphName(_)
             | LinkRule::GraphReg(_)

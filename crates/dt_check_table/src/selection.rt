@@ -213,9 +213,9 @@ impl Model for Selection {
 }
 
 impl Selection {
-    ghost use Rattle.std.specs.Prelude.{not, OnOk, OnErr, slice_get};
+    ghost use Rattle.std.specs.Prelude.{not, true, OnOk, OnErr, slice_get};
     ghost use Rattle.std.specs.Option.{option_copied};
-    ghost use Rattle.dt_check_table.specs.Selected.{level_at, is_done, changed};
+    ghost use Rattle.dt_check_table.specs.Selected.{level_at, asks_for, any_asks_for, is_done, is_due, changed};
 
     /// dtc's own.
     pub fn usual(alloc: Global) -> Result<Self, AllocError>
@@ -254,6 +254,31 @@ impl Selection {
         }
     }
 
+    // Whether a check is asked for and stands on that at a place.
+    fn asks_for(&self, least: Least, place: usize, above: usize, row: &Check) -> bool
+        ensures { result ≡ asks_for least self.now.levels place above row.now }
+    {
+        self.level(above).is_asked(least) && is_among(row.made_before, place)
+    }
+
+    fn any_asks_for(&self, least: Least, place: usize) -> bool
+        ensures { result ≡ any_asks_for least self.now.levels place 0 self.now.rows }
+    {
+        for (above, row) in self.rows.iter().enumerate() {
+            if self.asks_for(least, place, above, row) {
+                return true;
+            }
+        }
+        false
+    }
+
+    /// Whether a check is made: where it is asked for, or one that stands on it.
+    pub fn is_due(&self, least: Least, place: usize) -> bool
+        ensures { result ≡ is_due least self.now place }
+    {
+        self.level(place).is_asked(least) || self.any_asks_for(least, place)
+    }
+
     /// Whether no check is asked for.
     pub fn is_empty(&self, least: Least) -> bool
         ensures { result ≡ not (list_any (is_asked least) self.now.levels) }
@@ -287,7 +312,11 @@ impl Selection {
     }
 
     /// Asks for `unknown_property`.
-    pub fn ask_unknown(&mut self, kind: Kind) -> Result<(), AllocError> {
+    pub fn ask_unknown(&mut self, kind: Kind) -> Result<(), AllocError>
+        ensures done { OnOk result
+            (self.new ≡ changed (record { kind = kind; check = UNKNOWN_PROPERTY; on = true }) self.old) }
+        ensures refused { OnErr result (self.new ≡ self.old) }
+    {
         self.change(Change {
             kind,
             check: UNKNOWN_PROPERTY,
@@ -296,7 +325,9 @@ impl Selection {
     }
 
     /// Whether `unknown_property` is asked for.
-    pub fn asks_unknown(&self) -> bool {
+    pub fn asks_unknown(&self) -> bool
+        ensures { result ≡ is_asked Least.Warning (level_at self.now.levels UNKNOWN_PROPERTY) }
+    {
         self.level(UNKNOWN_PROPERTY).is_asked(Least::Warning)
     }
 

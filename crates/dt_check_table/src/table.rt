@@ -1,4 +1,5 @@
-//! The table of checks: dtc's in its order, in parts of eleven, and then those that dtc doesn't have.
+//! The table of checks: dtc's in the order in which it makes them, each behind those that it stands on, in parts of eleven; and then
+//! those that dtc doesn't have.
 
 mod links;
 mod lists;

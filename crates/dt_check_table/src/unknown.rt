@@ -3,13 +3,13 @@ ghost use Rattle.std.specs.Prelude.{◌≡◌, All, IfOk};
 
 use crate::finding::Finding;
 use crate::near::is_near;
-use crate::reference::{Places, Reference, list_of};
+use crate::reference::{Reference, RowRange, list_of};
 use dt_check::{Fault, Message, Survey};
 use dt_tree::Property;
 use std::alloc::{AllocError, Global};
 
 // Whether one of these rows is of a name.
-fn is_known(reference: &Reference<'_>, places: Places, name: &[u8]) -> bool {
+fn is_known(reference: &Reference<'_>, places: RowRange, name: &[u8]) -> bool {
     for place in places.first..places.end {
         match reference.row(place) {
             Some(row) if row.name == name => return true,
@@ -20,7 +20,7 @@ fn is_known(reference: &Reference<'_>, places: Places, name: &[u8]) -> bool {
 }
 
 // The first of these rows that a name is near.
-fn near_row(reference: &Reference<'_>, places: Places, name: &[u8]) -> Option<usize> {
+fn near_row(reference: &Reference<'_>, places: RowRange, name: &[u8]) -> Option<usize> {
     for place in places.first..places.end {
         match reference.row(place) {
             Some(row) if is_near(row.name, name) => return Some(place),
@@ -36,7 +36,7 @@ fn find_in<'t>(
     place: usize,
     properties: &'t [Property],
     reference: &Reference<'_>,
-    places: Places,
+    places: RowRange,
 ) -> Result<(), AllocError>
     requires { All (λ f. f.check ≡ check) findings.old.items }
     ensures { All (λ f. f.check ≡ check) findings.new.items }

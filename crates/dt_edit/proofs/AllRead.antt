@@ -7,6 +7,7 @@ use Rattle.dt_meaning.specs.Places.{what_stands}
 use Rattle.dt_meaning.specs.DtcEdits.{DtcTree, nothing}
 use Rattle.dt_meaning.specs.DtcStatements.{dtc_edited, dtc_items, label_twice, with_labels_once}
 use Rattle.dt_edit.specs.declared.error.EditError.{EditError}
+use Rattle.dt_edit.specs.declared.error.EditErrorKind.{EditErrorKind}
 use Rattle.dt_edit.specs.declared.standing.Standing.{Standing}
 use Rattle.dt_edit.specs.EditFault.{IsFault}
 use Rattle.dt_edit.specs.Private.AllRead.{Leaves}
@@ -25,7 +26,7 @@ module _ (m : Meaning) where
 
   pub edits-then : (t : DtcTree) (r : Result Standing EditError) → done ≡ Ok t → Leaves t r → Edits m r
   edits-then t (Ok s) e h = (t, ap (λ x. then_do x with_labels_once) e ∙ h.0, h.1)
-  edits-then t (Err x) e h = fault-same x (with_labels_once t) (dtc_edited m) (ap (λ x. then_do x with_labels_once) e) h
+  edits-then t (Err x) e h = fault-same x.kind (with_labels_once t) (dtc_edited m) (ap (λ x. then_do x with_labels_once) e) h
 
-  pub edits-refused : (x : EditError) → IsFault x done → IsFault x (dtc_edited m)
+  pub edits-refused : (x : EditErrorKind) → IsFault x done → IsFault x (dtc_edited m)
   edits-refused x h = fault-then x done with_labels_once h

@@ -16,7 +16,7 @@ use Rattle.dt_places.specs.Rows.{holds, holds_by, made_at, no_place, path_of, pl
 use Rattle.dt_places.specs.Tables.{rows_in}
 use Rattle.dt_places.specs.PlacedTrees.{IsPlacedTree, IsStanding, child_path, node_path}
 use Rattle.dt_places.specs.PlacedEdits.{Grows, HasSameNodes, IsFresh, IsMade, IsPlaceFault, Keeps}
-use Rattle.dt_edit.specs.declared.error.EditError.{EditError}
+use Rattle.dt_edit.specs.declared.error.EditErrorKind.{EditErrorKind}
 use Rattle.dt_edit.specs.EditFault.{IsFault}
 use Rattle.dt_edit.specs.Said.{Parts}
 use Rattle.dt_edit.specs.Private.DtcEdited.{IsDtcEdited, IsDtcPlace}
@@ -64,7 +64,7 @@ by-stand : (b c : Bool) → (b ≡ true → c ≡ true) → c ≡ false → b �
 by-stand true c f e = absurd (true≢false (sym (f refl) ∙ e))
 by-stand false c f e = refl
 
-past-away : (rows : List (Place (Unit {0}))) (k : ℕ) → length rows ≤ k → holds rows (suc k) ≡ false
+past-away : (rows : List (Place ℕ)) (k : ℕ) → length rows ≤ k → holds rows (suc k) ≡ false
 past-away rows k above =
     let none : place_at rows k ≡ no_place = get_or_past rows k no_place above in
     ap (λ b. (not b && nat_le (made_at rows (place_at rows k).owner) (place_at rows k).made) && holds_by k rows (place_at rows k).owner) (ap (λ r. r.removed) none)
@@ -147,7 +147,7 @@ module _ (inner omitted : Bool) (ls : List (List ℕ)) (q : Path) (t : DtcTree) 
   shallow : length q ≤ 64 → then_do (begun_node inner omitted ls q t) (dtc_body body inner q) ≡ then_do (then_do (made_node inner q t) (λ u. Ok (with_labels_at (given_in_turn inner ls) q (with_mark (omitted && inner) q u)))) (dtc_body body inner q)
   shallow le = ap (λ b. then_do (if b then Err TooDeep else then_do (made_node inner q t) (λ u. Ok (with_labels_at (given_in_turn inner ls) q (with_mark (omitted && inner) q u)))) (dtc_body body inner q)) (le-ltb 64 (length q) le)
 
-  pub child-refused : length q ≤ 64 → (e : EditError) → IsFault e (made_node inner q t) → IsFault e (then_do (begun_node inner omitted ls q t) (dtc_body body inner q))
+  pub child-refused : length q ≤ 64 → (e : EditErrorKind) → IsFault e (made_node inner q t) → IsFault e (then_do (begun_node inner omitted ls q t) (dtc_body body inner q))
   child-refused le e h =
       fault-same e (then_do (then_do (made_node inner q t) (λ u. Ok (with_labels_at (given_in_turn inner ls) q (with_mark (omitted && inner) q u)))) (dtc_body body inner q)) (then_do (begun_node inner omitted ls q t) (dtc_body body inner q)) (shallow le)
       (fault-then e (then_do (made_node inner q t) (λ u. Ok (with_labels_at (given_in_turn inner ls) q (with_mark (omitted && inner) q u)))) (dtc_body body inner q)
@@ -175,4 +175,4 @@ on-ok (Err e) P Q f h = h
 -- ---- the root
 -- a tree without nodes is fresh everywhere
 pub root-fresh : (a : PlacedTree Parts) (n : ℕ) → rows_in a.nodes ≡ [] → IsFresh a n
-root-fresh a n empty k at away = ap (λ (rs : List (Place (Unit {0}))). (place_at rs k).made) empty
+root-fresh a n empty k at away = ap (λ (rs : List (Place ℕ)). (place_at rs k).made) empty

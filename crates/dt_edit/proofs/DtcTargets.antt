@@ -56,7 +56,7 @@ module _ (d : PlacedTree Parts) where
     by_begun : (b : Bool) → d.begun ≡ b → b ≡ true
     by_begun true e = refl
     by_begun false e =
-        absurd (true≢false (sym h.0 ∙ ap₂ (λ (b : Bool) (rs : List (Place (Unit {0}))). one_stands (same_path p) (root_rows b ++ map (node_seen rs) rs)) e (ready.empty e)))
+        absurd (true≢false (sym h.0 ∙ ap₂ (λ (b : Bool) (rs : List (Place ℕ)). one_stands (same_path p) (root_rows b ++ map (node_seen rs) rs)) e (ready.empty e)))
 
   -- ---- deletion
   pub not-root : IsDtcReady d → (n k : ℕ) → n ≡ suc k → same_path (node_path d n) [] ≡ false

@@ -8,7 +8,7 @@ use Rattle.std.specs.List.{flat_map}
 use Rattle.dt_source.specs.declared.labels.Labels.{Labels}
 use Rattle.dt_source.specs.declared.tree.Item.{Item}
 use Rattle.dt_source.specs.declared.tree.Item.TheVariants.{Extend}
-use Rattle.dt_source.specs.declared.tree.Part.{Part}
+use Rattle.dt_source.specs.declared.tree.Value.{Value}
 use Rattle.dt_source.specs.declared.tree.Reference.{Reference}
 use Rattle.dt_source.specs.declared.tree.Statement.{Statement}
 use Rattle.dt_source.specs.Tree.{item_view, part_view, target_view}
@@ -41,8 +41,8 @@ first-at (suc n) k d below = elim (cases_eq k n) [
   | inr other ↦ get_or-append (first_names n) (fragment_name n ∷ []) d k (omega (arith, other, length-first n)) ∙ first-at n k d (omega (arith, other))
 ]
 
-abbrev pub value_of : Vec Part Global → List Piece
-value_of v = map part_view v.items
+abbrev pub value_of : Value → List Piece
+value_of v = map part_view v.parts.items
 
 abbrev pub name_of : Vec ℕ Global → List ℕ
 name_of v = v.items
@@ -50,7 +50,7 @@ name_of v = v.items
 -- ---- an extension that is next
 -- it has its value, and the next fragment has its name
 pub record IsNext (f : Fragments) (met made : ℕ) (t : Target) : Type 0 where
-  pub value : (d : Vec Part Global) → value_of (get_or f.targets.items met d) ≡ target_value t
+  pub value : (d : Value) → value_of (get_or f.targets.items met d) ≡ target_value t
   pub within : made < length f.names.items
   pub name : (name : List ℕ) (d : Vec ℕ Global) → name ≡ (get_or f.names.items made d).items → name ≡ fragment_name made
 

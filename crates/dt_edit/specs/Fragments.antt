@@ -22,4 +22,4 @@ first_names (suc n) = first_names n ++ fragment_name n ∷ []
 -- a name and a value for each extension, as each may make a fragment
 pub record AreFragments (is : List Edit) (f : Fragments) : Type 0 where
   pub names : map (λ v. v.items) f.names.items ≡ first_names (length (flat_map target_values is))
-  pub targets : map (λ v. map part_view v.items) f.targets.items ≡ flat_map target_values is
+  pub targets : map (λ v. map part_view v.parts.items) f.targets.items ≡ flat_map target_values is

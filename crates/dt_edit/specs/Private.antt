@@ -9,3 +9,4 @@ pub mod Made
 pub mod PlaceFault
 pub mod Progress
 pub mod Ready
+pub mod StandFault

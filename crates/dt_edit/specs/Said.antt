@@ -1,7 +1,7 @@
 -- The tree that a live tree shows, with its values as the source says them.
 use Rattle.std.specs.Prelude.{List, map}
 use denote.Ref.{Bor}
-use Rattle.dt_source.specs.declared.tree.Part.{Part}
+use Rattle.dt_source.specs.declared.tree.Value.{Value}
 use Rattle.dt_source.specs.Tree.{part_view}
 use Rattle.dt_meaning.specs.Syntax.{Piece}
 use Rattle.dt_meaning.specs.Edits.{State, Definition, definition}
@@ -10,10 +10,10 @@ use Rattle.dt_live.specs.Rows.{state_of}
 
 -- the value of a property as the text has it
 abbrev pub Parts : Type 0
-Parts = Bor (List Part)
+Parts = Bor Value
 
 abbrev pub pieces : Parts → List Piece
-pieces v = map part_view v.now
+pieces v = map part_view v.now.parts.items
 
 -- a state whose values are read
 abbrev pub read_definition : Definition Parts → Definition (List Piece)

@@ -29,4 +29,4 @@ pub record IsStandingOf (s : Standing) (t : DtcTree) : Type 0 where
 
 -- what stands when a source is read, or the first fault
 abbrev pub Edits : Meaning → Result Standing EditError → Type 0
-Edits m result = MatchResult result (λ s. (t : DtcTree) × (dtc_edited m ≡ Ok t) × IsStandingOf s t) (λ e. IsFault e (dtc_edited m))
+Edits m result = MatchResult result (λ s. (t : DtcTree) × (dtc_edited m ≡ Ok t) × IsStandingOf s t) (λ e. IsFault e.kind (dtc_edited m))

@@ -8,19 +8,21 @@ ghost use Rattle.dt_live.specs.Rows.{HasSamePropertyStamps, IsKept, child_path, 
 ghost use Rattle.dt_edit.specs.Private.Edited.{Admits, Does, IsEdited, IsPlace, Passes, body_step, child_entry};
 ghost use Rattle.dt_edit.specs.Private.Made.{IsExact};
 
-use crate::error::EditError;
+use crate::error::{EditError, EditErrorKind};
 use crate::made::Made;
 use dt_live::LiveTree;
-use dt_source::{Part, Statement};
+use dt_source::{Statement, Value};
 use dt_tree::MAX_DEPTH;
+use std::alloc::AllocError;
 
 /// Lets a child with its labels into the tree, unless this body has it already, or it can't stand there.
 fn admit_child<'d, 't>(
-    live: &mut LiveTree<'d, &'d [Part<'t>]>,
+    live: &mut LiveTree<'d, &'d Value<'t>>,
     made: &Made<'d>,
     node: usize,
     depth: usize,
     stamp: usize,
+    at: u32,
     labels: &'d [&'t [u8]],
     name: &'t [u8],
 ) -> Result<usize, EditError>
@@ -39,29 +41,33 @@ fn admit_child<'d, 't>(
     // the live tree holds them for as long as it lives itself
     let name: &'d [u8] = name;
     let labels: &'d [&'d [u8]] = labels;
-    let (child, first) = live.define_child(node, name, stamp)?;
+    let (child, first) = live.define_child(node, name, stamp, at)?;
     if let Err(error) = live.give_labels(labels, child) {
-        return Err(EditError::of_label(error));
+        return Err(EditError::of_label(error, at));
     }
     if !first {
-        return Err(EditError::DuplicateInBody);
+        let kind = EditErrorKind::DuplicateInBody;
+        return Err(EditError { kind, at });
     }
     if made.is_taken(node, name) {
-        return Err(EditError::ReservedName);
+        let kind = EditErrorKind::ReservedName;
+        return Err(EditError { kind, at });
     }
     if depth >= MAX_DEPTH {
-        return Err(EditError::TooDeep);
+        let kind = EditErrorKind::TooDeep;
+        return Err(EditError { kind, at });
     }
     Ok(child)
 }
 
 #[cycle(edits)]
 fn edit_child<'d, 't>(
-    live: &mut LiveTree<'d, &'d [Part<'t>]>,
+    live: &mut LiveTree<'d, &'d Value<'t>>,
     made: &Made<'d>,
     node: usize,
     depth: usize,
     stamp: usize,
+    at: u32,
     labels: &'d [&'t [u8]],
     name: &'t [u8],
     body: &'d [Statement<'t>],
@@ -72,14 +78,14 @@ fn edit_child<'d, 't>(
     ensures edited { OnOk result (IsEdited (node_path live.old node) live.old live.new) }
     ensures step { Passes (child_entry labels.now name.now body.now) live.old live.new node stamp made.now result }
 {
-    let child = admit_child(live, made, node, depth, stamp, labels, name)?;
+    let child = admit_child(live, made, node, depth, stamp, at, labels, name)?;
     edit_body(live, made, child, depth + 1, body)?;
     Ok(())
 }
 
 #[cycle(edits)]
 fn edit<'d, 't>(
-    live: &mut LiveTree<'d, &'d [Part<'t>]>,
+    live: &mut LiveTree<'d, &'d Value<'t>>,
     made: &Made<'d>,
     node: usize,
     depth: usize,
@@ -94,20 +100,24 @@ fn edit<'d, 't>(
 {
     match statement {
         Statement::Property { name, value } => {
-            if !live.set_property(node, *name, value.as_slice(), stamp)? {
-                return Err(EditError::DuplicateInBody);
+            if !live.set_property(node, *name, value, stamp)? {
+                return Err(EditError {
+                    kind: EditErrorKind::DuplicateInBody,
+                    at: value.at,
+                });
             }
             Ok(())
         }
-        Statement::DeleteProperty { name } => {
+        Statement::DeleteProperty { at: _, name } => {
             live.remove_property(node, *name);
             Ok(())
         }
-        Statement::DeleteNode { name } => {
+        Statement::DeleteNode { at: _, name } => {
             live.remove_child(node, *name);
             Ok(())
         }
         Statement::Node {
+            at,
             omit_if_no_ref: _,
             labels,
             name,
@@ -119,6 +129,7 @@ fn edit<'d, 't>(
                 node,
                 depth,
                 stamp,
+                *at,
                 labels.as_slice(),
                 *name,
                 body.as_slice(),
@@ -130,7 +141,7 @@ fn edit<'d, 't>(
 /// Does what the statements of a body say to a node. After a refusal the live tree is of no more use.
 #[cycle(edits)]
 pub(crate) fn edit_body<'d, 't>(
-    live: &mut LiveTree<'d, &'d [Part<'t>]>,
+    live: &mut LiveTree<'d, &'d Value<'t>>,
     made: &Made<'d>,
     node: usize,
     depth: usize,
@@ -144,7 +155,7 @@ pub(crate) fn edit_body<'d, 't>(
     let stamp = match live.new_stamp() {
         Some(stamp) => stamp,
         // 2^64 bodies don't fit into memory
-        None => return Err(EditError::NoMemory),
+        None => return Err(EditError::from(AllocError)),
     };
     for statement in body {
         edit(live, made, node, depth, stamp, statement)?;

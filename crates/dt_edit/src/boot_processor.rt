@@ -11,25 +11,25 @@ ghost use Rattle.dt_edit.specs.Private.BootReg.{Gets, boot_reg, reg_at, row_of};
 ghost use Rattle.dt_edit.specs.Private.DtcEdited.{placed_of};
 
 use dt_places::PlacedTree;
-use dt_source::Part;
+use dt_source::{Part, Value};
 use dt_tree::cell_in;
 use std::alloc::{AllocError, Global};
 
 /// The number of the first processor below /cpus: four bytes of its `reg`, as they are written; 0 where there is none.
 pub(crate) fn boot_processor<'d, 't>(
     alloc: Global,
-    placed: &PlacedTree<'d, &'d [Part<'t>]>,
+    placed: &PlacedTree<'d, &'d Value<'t>>,
 ) -> Result<u32, AllocError>
     requires sound { IsPlacedTree placed.now }
     ensures { IfOk result (λ number. number ≡ boot_processor (placed_of placed.now)) }
 {
     match first_reg(placed) {
-        Some(value) => number_written(alloc, value),
+        Some(value) => number_written(alloc, value.parts.as_slice()),
         None => Ok(0),
     }
 }
 
-fn first_reg<'d, 't>(placed: &PlacedTree<'d, &'d [Part<'t>]>) -> Option<&'d [Part<'t>]>
+fn first_reg<'d, 't>(placed: &PlacedTree<'d, &'d Value<'t>>) -> Option<&'d Value<'t>>
     requires sound { IsPlacedTree placed.now }
     ensures { Gets (boot_reg (placed_of placed.now)) result }
 {
@@ -40,7 +40,7 @@ fn first_reg<'d, 't>(placed: &PlacedTree<'d, &'d [Part<'t>]>) -> Option<&'d [Par
     }
 }
 
-fn reg_below<'d, 't>(placed: &PlacedTree<'d, &'d [Part<'t>]>, node: usize) -> Option<&'d [Part<'t>]>
+fn reg_below<'d, 't>(placed: &PlacedTree<'d, &'d Value<'t>>, node: usize) -> Option<&'d Value<'t>>
     requires sound { IsPlacedTree placed.now }
     requires node { IsStanding placed.now node }
     requires path { cpus ≡ node_path placed.now node }
@@ -52,7 +52,7 @@ fn reg_below<'d, 't>(placed: &PlacedTree<'d, &'d [Part<'t>]>, node: usize) -> Op
     }
 }
 
-fn reg_of<'d, 't>(placed: &PlacedTree<'d, &'d [Part<'t>]>, node: usize) -> Option<&'d [Part<'t>]>
+fn reg_of<'d, 't>(placed: &PlacedTree<'d, &'d Value<'t>>, node: usize) -> Option<&'d Value<'t>>
     requires sound { IsPlacedTree placed.now }
     requires known { node ≤ length (rows_in placed.now.nodes) }
     ensures { Gets (reg_at (placed_of placed.now) (row_of placed.now node)) result }

@@ -1,46 +1,47 @@
 //! The statements of a body in dtc's language.
-ghost use Rattle.std.specs.Prelude.{◌≡◌, OnOk, map};
+ghost use Rattle.std.specs.Prelude.{◌≡◌, OnOk};
 ghost use Rattle.dt_meaning.specs.DtcEdits.{made_property, unmade_node, unmade_property};
 ghost use Rattle.dt_meaning.specs.DtcStatements.{dtc_body, dtc_entry};
-ghost use Rattle.dt_source.specs.Tree.{part_view, view, views};
+ghost use Rattle.dt_source.specs.Tree.{view, views};
 ghost use Rattle.dt_places.specs.PlacedTrees.{child_path, node_path};
 ghost use Rattle.dt_edit.specs.EditFault.{Gives};
+ghost use Rattle.dt_edit.specs.Said.{pieces};
 ghost use Rattle.dt_edit.specs.Private.DtcEdited.{IsDtcEdited, IsDtcPlace, dtc_child, placed_of};
 
 use crate::dtc_child::{dress_child, make_child};
-use crate::error::EditError;
+use crate::error::{EditError, EditErrorKind};
 use dt_places::PlacedTree;
-use dt_source::{Part, Statement};
+use dt_source::{Statement, Value};
 use dt_tree::MAX_DEPTH;
 use std::alloc::AllocError;
 
 fn set_property<'d, 't>(
-    placed: &mut PlacedTree<'d, &'d [Part<'t>]>,
+    placed: &mut PlacedTree<'d, &'d Value<'t>>,
     first: bool,
     node: usize,
     depth: usize,
     name: &'d [u8],
-    value: &'d [Part<'t>],
+    value: &'d Value<'t>,
 ) -> Result<(), EditError>
     requires place { IsDtcPlace placed.old first node depth }
     ensures edited { OnOk result (IsDtcEdited first node placed.old placed.new) }
-    ensures step { Gives (made_property first (node_path placed.old node) name.now (map part_view value.now) (placed_of placed.old)) (λ _. placed_of placed.new) result }
+    ensures step { Gives (made_property first (node_path placed.old node) name.now (pieces value.entry) (placed_of placed.old)) (λ _. placed_of placed.new) result }
 {
     if first {
         match placed.new_property(node, name, value) {
             Ok(()) => Ok(()),
-            Err(error) => Err(EditError::of_place(error)),
+            Err(error) => Err(EditError::of_place(error, value.at)),
         }
     } else {
         match placed.set_property(node, name, value) {
             Ok(()) => Ok(()),
-            Err(error) => Err(EditError::of_place(error)),
+            Err(error) => Err(EditError::of_place(error, value.at)),
         }
     }
 }
 
 fn remove_property<'d, 't>(
-    placed: &mut PlacedTree<'d, &'d [Part<'t>]>,
+    placed: &mut PlacedTree<'d, &'d Value<'t>>,
     first: bool,
     node: usize,
     depth: usize,
@@ -58,10 +59,11 @@ fn remove_property<'d, 't>(
 }
 
 fn remove_child<'d, 't>(
-    placed: &mut PlacedTree<'d, &'d [Part<'t>]>,
+    placed: &mut PlacedTree<'d, &'d Value<'t>>,
     first: bool,
     node: usize,
     depth: usize,
+    at: u32,
     name: &'d [u8],
 ) -> Result<(), EditError>
     requires place { IsDtcPlace placed.old first node depth }
@@ -71,7 +73,7 @@ fn remove_child<'d, 't>(
     if first {
         match placed.reserve_node(node, name) {
             Ok(()) => Ok(()),
-            Err(error) => Err(EditError::of_place(error)),
+            Err(error) => Err(EditError::of_place(error, at)),
         }
     } else {
         placed.remove_child(node, name);
@@ -81,10 +83,11 @@ fn remove_child<'d, 't>(
 
 #[cycle(dtc_edits)]
 fn edit_dtc_child<'d, 't>(
-    placed: &mut PlacedTree<'d, &'d [Part<'t>]>,
+    placed: &mut PlacedTree<'d, &'d Value<'t>>,
     first: bool,
     node: usize,
     depth: usize,
+    at: u32,
     omitted: bool,
     labels: &'d [&'t [u8]],
     name: &'t [u8],
@@ -98,16 +101,17 @@ fn edit_dtc_child<'d, 't>(
     let name: &'d [u8] = name;
     let labels: &'d [&'d [u8]] = labels;
     if depth >= MAX_DEPTH {
-        return Err(EditError::TooDeep);
+        let kind = EditErrorKind::TooDeep;
+        return Err(EditError { kind, at });
     }
-    let made = make_child(placed, first, node, depth, name)?;
-    dress_child(placed, made, omitted, labels)?;
+    let made = make_child(placed, first, node, depth, at, name)?;
+    dress_child(placed, made, omitted, labels, at)?;
     edit_dtc_body(placed, made.begins, made.node, depth + 1, body)
 }
 
 #[cycle(dtc_edits)]
 fn edit_dtc<'d, 't>(
-    placed: &mut PlacedTree<'d, &'d [Part<'t>]>,
+    placed: &mut PlacedTree<'d, &'d Value<'t>>,
     first: bool,
     node: usize,
     depth: usize,
@@ -119,14 +123,15 @@ fn edit_dtc<'d, 't>(
 {
     match statement {
         Statement::Property { name, value } => {
-            set_property(placed, first, node, depth, *name, value.as_slice())
+            set_property(placed, first, node, depth, *name, value)
         }
-        Statement::DeleteProperty { name } => {
+        Statement::DeleteProperty { at: _, name } => {
             remove_property(placed, first, node, depth, *name)?;
             Ok(())
         }
-        Statement::DeleteNode { name } => remove_child(placed, first, node, depth, *name),
+        Statement::DeleteNode { at, name } => remove_child(placed, first, node, depth, *at, *name),
         Statement::Node {
+            at,
             omit_if_no_ref,
             labels,
             name,
@@ -137,6 +142,7 @@ fn edit_dtc<'d, 't>(
                 first,
                 node,
                 depth,
+                *at,
                 *omit_if_no_ref,
                 labels.as_slice(),
                 *name,
@@ -150,7 +156,7 @@ fn edit_dtc<'d, 't>(
 /// the tree is of no more use.
 #[cycle(dtc_edits)]
 pub(crate) fn edit_dtc_body<'d, 't>(
-    placed: &mut PlacedTree<'d, &'d [Part<'t>]>,
+    placed: &mut PlacedTree<'d, &'d Value<'t>>,
     first: bool,
     node: usize,
     depth: usize,

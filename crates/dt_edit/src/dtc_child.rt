@@ -9,14 +9,15 @@ ghost use Rattle.dt_edit.specs.Private.DtcEdited.{IsDtcPlace, placed_of};
 
 use crate::error::EditError;
 use dt_places::{MadeNode, PlacedTree};
-use dt_source::Part;
+use dt_source::Value;
 use std::alloc::AllocError;
 
-/// Gives labels to a node, in their order.
+/// Gives labels to a node, in their order; `at` is where the text has what they stand before.
 pub(crate) fn give_labels<'d, 't>(
-    placed: &mut PlacedTree<'d, &'d [Part<'t>]>,
+    placed: &mut PlacedTree<'d, &'d Value<'t>>,
     node: usize,
     labels: &[&'d [u8]],
+    at: u32,
 ) -> Result<(), AllocError>
     requires sound { IsPlacedTree placed.old }
     requires node { IsStanding placed.old node }
@@ -26,16 +27,17 @@ pub(crate) fn give_labels<'d, 't>(
     ensures tree { OnOk result (placed_of placed.new ≡ with_labels_at (map (λ l. l.now) labels.now) (node_path placed.old node) (placed_of placed.old)) }
 {
     for label in labels {
-        placed.give_label(*label, node)?;
+        placed.give_label(*label, node, at)?;
     }
     Ok(())
 }
 
 /// Gives labels to a node, the last one first.
 fn give_labels_backwards<'d, 't>(
-    placed: &mut PlacedTree<'d, &'d [Part<'t>]>,
+    placed: &mut PlacedTree<'d, &'d Value<'t>>,
     node: usize,
     labels: &[&'d [u8]],
+    at: u32,
 ) -> Result<(), AllocError>
     requires sound { IsPlacedTree placed.old }
     requires node { IsStanding placed.old node }
@@ -45,14 +47,14 @@ fn give_labels_backwards<'d, 't>(
     ensures tree { OnOk result (placed_of placed.new ≡ with_labels_at (reverse (map (λ l. l.now) labels.now)) (node_path placed.old node) (placed_of placed.old)) }
 {
     for index in 0..labels.len() {
-        placed.give_label(labels[labels.len() - 1 - index], node)?;
+        placed.give_label(labels[labels.len() - 1 - index], node, at)?;
     }
     Ok(())
 }
 
 /// Marks a node, where `/omit-if-no-ref/` counts for it.
 fn mark_child<'d, 't>(
-    placed: &mut PlacedTree<'d, &'d [Part<'t>]>,
+    placed: &mut PlacedTree<'d, &'d Value<'t>>,
     node: usize,
     counts: bool,
 ) -> Result<(), AllocError>
@@ -71,10 +73,11 @@ fn mark_child<'d, 't>(
 
 /// Marks a child and gives it its labels: where it begins, the last of them comes first.
 pub(crate) fn dress_child<'d, 't>(
-    placed: &mut PlacedTree<'d, &'d [Part<'t>]>,
+    placed: &mut PlacedTree<'d, &'d Value<'t>>,
     made: MadeNode,
     omitted: bool,
     labels: &[&'d [u8]],
+    at: u32,
 ) -> Result<(), AllocError>
     requires sound { IsPlacedTree placed.old }
     requires node { IsStanding placed.old made.node }
@@ -85,18 +88,19 @@ pub(crate) fn dress_child<'d, 't>(
 {
     mark_child(placed, made.node, omitted && made.begins)?;
     if made.begins {
-        give_labels_backwards(placed, made.node, labels)
+        give_labels_backwards(placed, made.node, labels, at)
     } else {
-        give_labels(placed, made.node, labels)
+        give_labels(placed, made.node, labels, at)
     }
 }
 
 /// Makes or merges a child of a node, in the body with which the node begins or in a later one.
 pub(crate) fn make_child<'d, 't>(
-    placed: &mut PlacedTree<'d, &'d [Part<'t>]>,
+    placed: &mut PlacedTree<'d, &'d Value<'t>>,
     first: bool,
     node: usize,
     depth: usize,
+    at: u32,
     name: &'d [u8],
 ) -> Result<MadeNode, EditError>
     requires place { IsDtcPlace placed.old first node depth }
@@ -110,19 +114,19 @@ pub(crate) fn make_child<'d, 't>(
     ensures step { Gives (made_node (is_first first (child_path placed.old node name.now) (placed_of placed.old)) (child_path placed.old node name.now) (placed_of placed.old)) (λ _. placed_of placed.new) result }
 {
     if first {
-        match placed.new_node(node, name) {
+        match placed.new_node(node, name, at) {
             Ok(child) => {
                 Ok(MadeNode {
                     node: child,
                     begins: true,
                 })
             }
-            Err(error) => Err(EditError::of_place(error)),
+            Err(error) => Err(EditError::of_place(error, at)),
         }
     } else {
-        match placed.make_node(node, name) {
+        match placed.make_node(node, name, at) {
             Ok(made) => Ok(made),
-            Err(error) => Err(EditError::of_place(error)),
+            Err(error) => Err(EditError::of_place(error, at)),
         }
     }
 }

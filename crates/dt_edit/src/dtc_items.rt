@@ -18,13 +18,13 @@ use crate::error::EditError;
 use crate::fragments::Fragments;
 use crate::items::extensions_in;
 use dt_places::PlacedTree;
-use dt_source::{Item, Part, Statement};
+use dt_source::{Item, Statement, Value};
 use std::alloc::Global;
 use std::hash::RandomState;
 
 /// Does what a body of the root says; the first one makes the root.
 fn edit_dtc_root<'d, 't>(
-    placed: &mut PlacedTree<'d, &'d [Part<'t>]>,
+    placed: &mut PlacedTree<'d, &'d Value<'t>>,
     body: &'d [Statement<'t>],
 ) -> Result<(), EditError>
     requires sound { IsPlacedTree placed.old }
@@ -42,7 +42,7 @@ fn edit_dtc_root<'d, 't>(
 fn edit_dtc_item<'d, 't>(
     alloc: Global,
     hasher: RandomState,
-    placed: &mut PlacedTree<'d, &'d [Part<'t>]>,
+    placed: &mut PlacedTree<'d, &'d Value<'t>>,
     plugin: bool,
     fragments: &'d Fragments<'t>,
     extension: usize,
@@ -56,7 +56,7 @@ fn edit_dtc_item<'d, 't>(
     ensures item { Gives (dtc_item plugin (item_view item.now) (placed_of placed.old)) (λ _. placed_of placed.new) result }
 {
     match item {
-        Item::Root(body) => edit_dtc_root(placed, body.as_slice()),
+        Item::Root { at: _, body } => edit_dtc_root(placed, body.as_slice()),
         Item::Delete(target) => delete(alloc, hasher, placed, target),
         Item::Omit(target) => omit(alloc, hasher, placed, target),
         Item::Extend {
@@ -69,7 +69,7 @@ fn edit_dtc_item<'d, 't>(
                 placed.begin();
                 let made = placed.fragments();
                 let name = fragments.names[made].as_slice();
-                let value = fragments.targets[extension].as_slice();
+                let value = &fragments.targets[extension];
                 add_dtc_fragment(placed, name, target, value, body.as_slice())
             } else {
                 extend(alloc, hasher, placed, labels, target, body.as_slice())
@@ -85,7 +85,7 @@ pub(crate) fn edit_dtc_items<'d, 't>(
     plugin: bool,
     fragments: &'d Fragments<'t>,
     items: &'d [Item<'t>],
-) -> Result<PlacedTree<'d, &'d [Part<'t>]>, EditError>
+) -> Result<PlacedTree<'d, &'d Value<'t>>, EditError>
     requires fragments { AreFragments (map item_view items.now) fragments.now }
     ensures sound { IfOk result IsPlacedTree }
     ensures items { Gives (dtc_items plugin (map item_view items.now) nothing) placed_of result }

@@ -11,16 +11,16 @@ ghost use Rattle.dt_edit.specs.Private.DtcEdited.{IsDtcReady, dtc_extended, plac
 use crate::dtc_body::edit_dtc_body;
 use crate::dtc_child::give_labels;
 use crate::dtc_targets::dtc_target_of;
-use crate::error::EditError;
+use crate::error::{EditError, EditErrorKind};
 use dt_places::PlacedTree;
-use dt_source::{Labels, Part, Reference, Statement};
+use dt_source::{Labels, Reference, Statement, Value};
 use std::alloc::{AllocError, Global};
 use std::hash::RandomState;
 
 pub(crate) fn delete<'d, 't>(
     alloc: Global,
     hasher: RandomState,
-    placed: &mut PlacedTree<'d, &'d [Part<'t>]>,
+    placed: &mut PlacedTree<'d, &'d Value<'t>>,
     target: &'d Reference<'t>,
 ) -> Result<(), EditError>
     requires ready { IsDtcReady placed.old }
@@ -30,7 +30,10 @@ pub(crate) fn delete<'d, 't>(
 {
     let node = dtc_target_of(alloc, hasher, placed, target)?;
     if node == 0 {
-        return Err(EditError::ReservedName);
+        return Err(EditError {
+            kind: EditErrorKind::ReservedName,
+            at: target.at(),
+        });
     }
     placed.remove_node(node);
     Ok(())
@@ -39,7 +42,7 @@ pub(crate) fn delete<'d, 't>(
 pub(crate) fn omit<'d, 't>(
     alloc: Global,
     hasher: RandomState,
-    placed: &mut PlacedTree<'d, &'d [Part<'t>]>,
+    placed: &mut PlacedTree<'d, &'d Value<'t>>,
     target: &'d Reference<'t>,
 ) -> Result<(), EditError>
     requires ready { IsDtcReady placed.old }
@@ -55,7 +58,7 @@ pub(crate) fn omit<'d, 't>(
 pub(crate) fn extend<'d, 't>(
     alloc: Global,
     hasher: RandomState,
-    placed: &mut PlacedTree<'d, &'d [Part<'t>]>,
+    placed: &mut PlacedTree<'d, &'d Value<'t>>,
     labels: &'d Labels<'t>,
     target: &'d Reference<'t>,
     body: &'d [Statement<'t>],
@@ -67,7 +70,7 @@ pub(crate) fn extend<'d, 't>(
 {
     let node = dtc_target_of(alloc, hasher, placed, target)?;
     let labels: &'d [&'d [u8]] = labels.as_slice();
-    give_labels(placed, node, labels)?;
+    give_labels(placed, node, labels, target.at())?;
     let depth = placed.depth(node);
     edit_dtc_body(placed, false, node, depth, body)
 }
@@ -76,7 +79,7 @@ pub(crate) fn extend<'d, 't>(
 fn is_unused<'d, 't>(
     alloc: Global,
     hasher: RandomState,
-    placed: &PlacedTree<'d, &'d [Part<'t>]>,
+    placed: &PlacedTree<'d, &'d Value<'t>>,
     label: &'d [u8],
 ) -> Result<bool, AllocError>
     requires ready { IsDtcReady placed.now }
@@ -91,7 +94,7 @@ pub(crate) fn begins_fragment<'d, 't>(
     alloc: Global,
     hasher: RandomState,
     plugin: bool,
-    placed: &PlacedTree<'d, &'d [Part<'t>]>,
+    placed: &PlacedTree<'d, &'d Value<'t>>,
     labels: &'d Labels<'t>,
     target: &'d Reference<'t>,
 ) -> Result<bool, AllocError>
@@ -105,7 +108,7 @@ pub(crate) fn begins_fragment<'d, 't>(
         return Ok(false);
     }
     match target {
-        Reference::Path(_) => Ok(true),
-        Reference::Label(label) => is_unused(alloc, hasher, placed, *label),
+        Reference::Path { .. } => Ok(true),
+        Reference::Label { at: _, label } => is_unused(alloc, hasher, placed, *label),
     }
 }

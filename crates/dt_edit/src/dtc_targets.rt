@@ -7,16 +7,17 @@ ghost use Rattle.dt_places.specs.PlacedTrees.{IsStanding, node_path};
 ghost use Rattle.dt_edit.specs.EditFault.{Gives};
 ghost use Rattle.dt_edit.specs.Private.DtcEdited.{IsDtcReady, placed_of};
 
-use crate::error::EditError;
+use crate::error::{EditError, EditErrorKind};
 use dt_places::PlacedTree;
-use dt_source::{Part, Reference};
+use dt_source::{Reference, Value};
 use std::alloc::Global;
 use std::hash::RandomState;
 
 fn node_of_label<'d, 't>(
     alloc: Global,
     hasher: RandomState,
-    placed: &PlacedTree<'d, &'d [Part<'t>]>,
+    placed: &PlacedTree<'d, &'d Value<'t>>,
+    at: u32,
     label: &'d [u8],
 ) -> Result<usize, EditError>
     requires ready { IsDtcReady placed.now }
@@ -27,12 +28,16 @@ fn node_of_label<'d, 't>(
     let found = placed.labelled(alloc, hasher, label)?;
     match found {
         Some(node) => Ok(node),
-        None => Err(EditError::UnknownLabel),
+        None => Err(EditError {
+            kind: EditErrorKind::UnknownLabel,
+            at,
+        }),
     }
 }
 
 fn node_of_path<'d, 't>(
-    placed: &PlacedTree<'d, &'d [Part<'t>]>,
+    placed: &PlacedTree<'d, &'d Value<'t>>,
+    at: u32,
     path: &'d [u8],
 ) -> Result<usize, EditError>
     requires ready { IsDtcReady placed.now }
@@ -42,7 +47,10 @@ fn node_of_path<'d, 't>(
 {
     match placed.at_path(path) {
         Some(node) => Ok(node),
-        None => Err(EditError::UnknownPath),
+        None => Err(EditError {
+            kind: EditErrorKind::UnknownPath,
+            at,
+        }),
     }
 }
 
@@ -50,7 +58,7 @@ fn node_of_path<'d, 't>(
 pub(crate) fn dtc_target_of<'d, 't>(
     alloc: Global,
     hasher: RandomState,
-    placed: &PlacedTree<'d, &'d [Part<'t>]>,
+    placed: &PlacedTree<'d, &'d Value<'t>>,
     target: &'d Reference<'t>,
 ) -> Result<usize, EditError>
     requires ready { IsDtcReady placed.now }
@@ -59,7 +67,7 @@ pub(crate) fn dtc_target_of<'d, 't>(
     ensures begun { OnOk result (placed.now.begun ≡ true) }
 {
     match target {
-        Reference::Label(label) => node_of_label(alloc, hasher, placed, *label),
-        Reference::Path(path) => node_of_path(placed, *path),
+        Reference::Label { at, label } => node_of_label(alloc, hasher, placed, *at, *label),
+        Reference::Path { at, path } => node_of_path(placed, *at, *path),
     }
 }

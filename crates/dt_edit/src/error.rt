@@ -2,14 +2,15 @@
 ghost use Rattle.std.specs.Prelude.{◌≡◌};
 ghost use Rattle.dt_edit.specs.Private.LabelFault.{edit_error};
 ghost use Rattle.dt_edit.specs.Private.PlaceFault.{place_error};
+ghost use Rattle.dt_edit.specs.Private.StandFault.{stand_error};
 
 use dt_live::LabelError;
-use dt_places::PlaceError;
+use dt_places::{PlaceError, StandError};
 use std::alloc::AllocError;
 
-/// Why the edits of a source stop.
+/// What stops the edits of a source.
 #[derive(Debug, Clone, Copy, PartialEq, Eq, Drop)]
-pub enum EditError {
+pub enum EditErrorKind {
     NoMemory,
     UnknownLabel,
     DuplicateLabel,
@@ -19,33 +20,61 @@ pub enum EditError {
     TooDeep,
 }
 
+/// Why the edits of a source stop, and where in its text.
+#[derive(Debug, Clone, Copy, PartialEq, Eq, Drop)]
+pub struct EditError {
+    pub kind: EditErrorKind,
+    /// where the name or the reference begins that is at fault, in bytes; of no meaning for want of memory
+    pub at: u32,
+}
+
 impl From<AllocError> for EditError {
     ghost use Rattle.std.specs.Prelude.{◌≡◌};
-    ghost use Rattle.dt_edit.specs.declared.error.EditError.TheVariants.{NoMemory};
+    ghost use Rattle.dt_edit.specs.declared.error.EditErrorKind.TheVariants.{NoMemory};
 
-    ghost from_gives = { λ _ e. e ≡ NoMemory };
+    ghost from_gives = { λ _ e. e.kind ≡ NoMemory };
 
     fn from(_e: AllocError) -> EditError {
-        EditError::NoMemory
+        EditError {
+            kind: EditErrorKind::NoMemory,
+            at: 0,
+        }
     }
 }
 
 impl EditError {
-    pub(crate) fn of_label(error: LabelError) -> EditError
-        ensures { result ≡ edit_error error }
+    pub(crate) fn of_label(error: LabelError, at: u32) -> EditError
+        ensures { result.kind ≡ edit_error error }
     {
-        match error {
-            LabelError::NoMemory => EditError::NoMemory,
-            LabelError::DuplicateLabel => EditError::DuplicateLabel,
-        }
+        let kind = match error {
+            LabelError::NoMemory => EditErrorKind::NoMemory,
+            LabelError::DuplicateLabel => EditErrorKind::DuplicateLabel,
+        };
+        EditError { kind, at }
     }
 
-    pub(crate) fn of_place(error: PlaceError) -> EditError
-        ensures { result ≡ place_error error }
+    pub(crate) fn of_place(error: PlaceError, at: u32) -> EditError
+        ensures { result.kind ≡ place_error error }
+    {
+        let kind = match error {
+            PlaceError::NoMemory => EditErrorKind::NoMemory,
+            PlaceError::DuplicateInBody => EditErrorKind::DuplicateInBody,
+        };
+        EditError { kind, at }
+    }
+
+    pub(crate) fn of_stand(error: StandError) -> EditError
+        ensures { result.kind ≡ stand_error error }
     {
         match error {
-            PlaceError::NoMemory => EditError::NoMemory,
-            PlaceError::DuplicateInBody => EditError::DuplicateInBody,
+            StandError::NoMemory => EditError {
+                kind: EditErrorKind::NoMemory,
+                at: 0,
+            },
+            StandError::DuplicateLabel { at } => EditError {
+                kind: EditErrorKind::DuplicateLabel,
+                at,
+            },
         }
     }
 }

@@ -7,14 +7,14 @@ ghost use Rattle.dt_source.specs.Tree.{item_view, part_view, target_view};
 ghost use Rattle.dt_edit.specs.Fragments.{AreFragments, target_values};
 ghost use Rattle.dt_edit.specs.Private.Ready.{AddsValues, IsNamed};
 
-use dt_source::{Item, Part, Reference};
+use dt_source::{Item, Part, Reference, Value};
 use std::alloc::{AllocError, Global};
 
 /// The name of each fragment that a source may make, and the value of its property `target` or `target-path` by its extension.
 #[derive(Drop)]
 pub struct Fragments<'t> {
     pub(crate) names: Vec<Vec<u8>>,
-    pub(crate) targets: Vec<Vec<Part<'t>>>,
+    pub(crate) targets: Vec<Value<'t>>,
 }
 
 fn fragment_name(alloc: Global, number: usize) -> Result<Vec<u8>, AllocError>
@@ -35,17 +35,23 @@ fn path_bytes(alloc: Global, path: &[u8]) -> Result<Vec<u8>, AllocError>
 }
 
 /// What the property of a fragment has that says what it extends.
-fn target_value<'t>(alloc: Global, target: &Reference<'t>) -> Result<Vec<Part<'t>>, AllocError>
+fn target_value<'t>(alloc: Global, target: &Reference<'t>) -> Result<Value<'t>, AllocError>
     requires { IsLawfulTarget (target_view target.now) }
-    ensures { IfOk result (λ value. map part_view value.items ≡ target_value (target_view target.now)) }
+    ensures { IfOk result (λ value. map part_view value.parts.items ≡ target_value (target_view target.now)) }
 {
     let part = match target {
-        Reference::Label(label) => Part::Phandle(Reference::Label(*label)),
-        Reference::Path(path) => Part::Bytes(path_bytes(alloc, *path)?),
+        Reference::Label { at, label } => Part::Phandle(Reference::Label {
+            at: *at,
+            label: *label,
+        }),
+        Reference::Path { at: _, path } => Part::Bytes(path_bytes(alloc, *path)?),
     };
-    let mut value = Vec::with_capacity(alloc, 1)?;
-    value.push(part)?;
-    Ok(value)
+    let mut parts = Vec::with_capacity(alloc, 1)?;
+    parts.push(part)?;
+    Ok(Value {
+        at: target.at(),
+        parts,
+    })
 }
 
 impl<'t> Fragments<'t> {
@@ -72,7 +78,7 @@ impl<'t> Fragments<'t> {
     {
         match item {
             Item::Extend { target, .. } => self.add(alloc, target),
-            Item::Root(_) | Item::Delete(_) | Item::Omit(_) => Ok(()),
+            Item::Root { .. } | Item::Delete(_) | Item::Omit(_) => Ok(()),
         }
     }
 }

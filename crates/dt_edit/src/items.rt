@@ -14,16 +14,16 @@ ghost use Rattle.dt_edit.specs.Said.{tree_of};
 
 use crate::adding::{add_fragment, makes_fragment};
 use crate::body::edit_body;
-use crate::error::EditError;
+use crate::error::{EditError, EditErrorKind};
 use crate::fragments::Fragments;
 use crate::made::Made;
 use crate::targets::target_of;
 use dt_live::LiveTree;
-use dt_source::{Item, Labels, Part, Reference, Statement};
+use dt_source::{Item, Labels, Reference, Statement, Value};
 use std::alloc::Global;
 
 fn delete<'d, 't>(
-    live: &mut LiveTree<'d, &'d [Part<'t>]>,
+    live: &mut LiveTree<'d, &'d Value<'t>>,
     target: &'d Reference<'t>,
 ) -> Result<(), EditError>
     requires sound { IsLiveTree live.old }
@@ -34,14 +34,17 @@ fn delete<'d, 't>(
 {
     let node = target_of(live, target)?;
     if node == 0 {
-        return Err(EditError::ReservedName);
+        return Err(EditError {
+            kind: EditErrorKind::ReservedName,
+            at: target.at(),
+        });
     }
     live.remove_node(node);
     Ok(())
 }
 
 fn extend<'d, 't>(
-    live: &mut LiveTree<'d, &'d [Part<'t>]>,
+    live: &mut LiveTree<'d, &'d Value<'t>>,
     made: &Made<'d>,
     labels: &'d Labels<'t>,
     target: &'d Reference<'t>,
@@ -56,7 +59,7 @@ fn extend<'d, 't>(
 {
     let node = target_of(live, target)?;
     if let Err(error) = live.give_labels(labels.as_slice(), node) {
-        return Err(EditError::of_label(error));
+        return Err(EditError::of_label(error, target.at()));
     }
     let depth = live.depth(node);
     edit_body(live, made, node, depth, body)
@@ -69,12 +72,12 @@ pub(crate) fn extensions_in<'t>(item: &Item<'t>) -> usize
 {
     match item {
         Item::Extend { .. } => 1,
-        Item::Root(_) | Item::Delete(_) | Item::Omit(_) => 0,
+        Item::Root { .. } | Item::Delete(_) | Item::Omit(_) => 0,
     }
 }
 
 fn edit_item<'d, 't>(
-    live: &mut LiveTree<'d, &'d [Part<'t>]>,
+    live: &mut LiveTree<'d, &'d Value<'t>>,
     made: &mut Made<'d>,
     plugin: bool,
     fragments: &'d Fragments<'t>,
@@ -93,7 +96,7 @@ fn edit_item<'d, 't>(
     ensures item { Does (after_item plugin (item_view item.now)) live.old made.old live.new made.new result }
 {
     match item {
-        Item::Root(body) => edit_body(live, made, 0, 0, body.as_slice()),
+        Item::Root { at: _, body } => edit_body(live, made, 0, 0, body.as_slice()),
         Item::Delete(target) => delete(live, target),
         // the profile's grammar has no such item
         Item::Omit(_) => Ok(()),
@@ -104,7 +107,7 @@ fn edit_item<'d, 't>(
         } => {
             if makes_fragment(plugin, live, labels, target) {
                 let name = fragments.names[made.count].as_slice();
-                let value = fragments.targets[extension].as_slice();
+                let value = &fragments.targets[extension];
                 add_fragment(live, made, name, target, value, body.as_slice())
             } else {
                 extend(live, made, labels, target, body.as_slice())
@@ -116,7 +119,7 @@ fn edit_item<'d, 't>(
 /// Does what the items of a source say, in their order. After a refusal the live tree is of no more use.
 pub fn edit_items<'d, 't>(
     alloc: Global,
-    live: &mut LiveTree<'d, &'d [Part<'t>]>,
+    live: &mut LiveTree<'d, &'d Value<'t>>,
     plugin: bool,
     fragments: &'d Fragments<'t>,
     items: &'d [Item<'t>],

@@ -19,7 +19,7 @@ mod made;
 mod standing;
 mod targets;
 
-pub use error::EditError;
+pub use error::{EditError, EditErrorKind};
 pub use fragments::{Fragments, fragments_of};
 pub use items::edit_items;
 pub use standing::{Standing, edit_dtc};

@@ -12,7 +12,7 @@ use crate::error::EditError;
 use crate::fragments::Fragments;
 use dt_live::LiveTree;
 use dt_places::PlacedTree;
-use dt_source::{Part, Source};
+use dt_source::{Source, Value};
 use std::alloc::Global;
 use std::hash::RandomState;
 
@@ -21,7 +21,7 @@ use std::hash::RandomState;
 /// on which the system boots, where the command line names none.
 #[derive(Drop)]
 pub struct Standing<'d, 't> {
-    pub live: LiveTree<'d, &'d [Part<'t>]>,
+    pub live: LiveTree<'d, &'d Value<'t>>,
     pub marked: Vec<bool>,
     pub labelled: Vec<bool>,
     pub boot_processor: u32,
@@ -31,7 +31,7 @@ pub struct Standing<'d, 't> {
 fn standing_of<'d, 't>(
     alloc: Global,
     hasher: RandomState,
-    placed: &PlacedTree<'d, &'d [Part<'t>]>,
+    placed: &PlacedTree<'d, &'d Value<'t>>,
 ) -> Result<Standing<'d, 't>, EditError>
     requires { IsPlacedTree placed.now }
     ensures { Leaves (placed_of placed.now) result }
@@ -48,7 +48,7 @@ fn standing_of<'d, 't>(
                 boot_processor,
             })
         }
-        Err(error) => Err(EditError::of_label(error)),
+        Err(error) => Err(EditError::of_stand(error)),
     }
 }
 

@@ -11,7 +11,7 @@ use Rattle.dt_live.specs.Index.{row_of, stamp_of}
 -- ---- nodes
 -- the row that stands where there is none
 abbrev pub no_row : NodeRow
-no_row = record { parent = 0; name = record { ref_ptr = (0, 0); now = [] }; removed = true }
+no_row = record { parent = 0; name = record { ref_ptr = (0, 0); now = [] }; removed = true; at = 0 }
 
 -- node k + 1 has row k
 abbrev pub row_at : List NodeRow → ℕ → NodeRow

@@ -17,12 +17,13 @@ impl<'d, V: Copy> LiveTree<'d, V> {
     }
 
     /// The child of this name, put behind the others where it isn't there; and whether this body is the first to define it, or
-    /// another one did so last.
+    /// another one did so last. Where the definition stands is kept of the node that it makes.
     pub fn define_child(
         &mut self,
         parent: usize,
         name: &'d [u8],
         stamp: usize,
+        at: u32,
     ) -> Result<(usize, bool), AllocError>
         requires sound { IsLiveTree self.old }
         requires known { IsNode self.old parent }
@@ -50,6 +51,7 @@ impl<'d, V: Copy> LiveTree<'d, V> {
                     parent,
                     name,
                     removed: false,
+                    at,
                 })?;
                 Ok((node, first))
             }

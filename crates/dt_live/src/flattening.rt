@@ -15,6 +15,9 @@ use std::hash::RandomState;
 /// The tree as the one body that defines all rows.
 const STAMP: usize = 1;
 
+/// No text has a definition of theirs.
+const NOWHERE: u32 = 0;
+
 /// The nodes and the properties of a tree as rows, each node before those below it, with names and values lent from the tree.
 /// A node costs constant time, and so does a property.
 pub fn flatten<'t>(
@@ -83,7 +86,7 @@ fn flatten_node<'t>(
 {
     flatten_properties(live, number, node.properties())?;
     for child in node.children() {
-        let (below, _) = live.define_child(number, child.name_bytes(), STAMP)?;
+        let (below, _) = live.define_child(number, child.name_bytes(), STAMP, NOWHERE)?;
         flatten_node(live, below, child)?;
     }
     Ok(())

@@ -8,12 +8,14 @@ use crate::index::Index;
 use std::alloc::Global;
 use std::hash::RandomState;
 
-/// A node: the one above it, and its name. Node 0 is the root, node n has row n - 1.
+/// A node: the one above it, its name, and where the definition stands that made it: the offset of its name in a text, in bytes, 0
+/// where no text has one. Node 0 is the root, node n has row n - 1.
 #[derive(Clone, Copy)]
 pub struct NodeRow<'d> {
     pub parent: usize,
     pub name: &'d [u8],
     pub removed: bool,
+    pub at: u32,
 }
 
 /// A property of a node, with its value, None where it was removed.

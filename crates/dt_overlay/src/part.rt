@@ -47,7 +47,7 @@ pub(crate) fn define_nodes<'s, 't>(
         if row.parent < body {
             return Ok((node, is_deep));
         }
-        let (base_node, _) = live.define_child(base_nodes[row.parent], row.name, STAMP)?;
+        let (base_node, _) = live.define_child(base_nodes[row.parent], row.name, STAMP, row.at)?;
         base_nodes[node] = base_node;
         if live.depth(base_node) > MAX_DEPTH {
             is_deep = true;

@@ -94,6 +94,9 @@ fn symbol_of<'t>(
 // The stamp of what defines symbols: none is asked for here.
 const STAMP: usize = 1;
 
+// No text has their node.
+const NOWHERE: u32 = 0;
+
 // Puts a symbol over those of a live tree.
 fn put_symbol<'s>(
     live: &mut LiveTree<'s, &'s [u8]>,
@@ -106,7 +109,7 @@ fn put_symbol<'s>(
     ensures labels { OnOk result ((state_of live.new).labels ≡ (state_of live.old).labels) }
     ensures put { OnOk result (PutsSymbol name.now value.now live.old live.new) }
 {
-    let (node, _) = live.define_child(0, b"__symbols__".as_slice(), STAMP)?;
+    let (node, _) = live.define_child(0, b"__symbols__".as_slice(), STAMP, NOWHERE)?;
     live.set_property(node, name, value, STAMP)?;
     Ok(())
 }

@@ -1,11 +1,12 @@
 -- The step from a byte to the next, of numbers and of sites.
 use Rattle.std.proofs.Common.{◌≡◌, ◌<◌, ◌≤◌, ℕ, ◌+◌, ◌-◌, ◌*◌, Bool, true, false, eqb, List, [], ◌∷◌, ◌++◌, length, drop, get_or, refl, sym, ap, ◌∙◌, arith, rules, take, length-drop}
 use Rattle.std.specs.Prelude.{◌&&◌, nat_lt, slice_range}
-use Rattle.std.proofs.lemmas.List.{at_drop_more, at_drop_all, take_more, length-take, get_or-drop}
+use Rattle.std.proofs.lemmas.List.{at_drop_more, at_drop_all, take_more, take-take, length-take, length-take-le, get_or-drop, get_or-take}
+use Rattle.std.proofs.lemmas.Slice.{between_is}
 use Rattle.std.proofs.lemmas.Bool.{eqb-true}
 use Rattle.std.proofs.lemmas.Bool.Decides.{nat_tests}
 use Rattle.dt_lexeme.specs.Bytes.{is_digit}
-use Rattle.dt_place.specs.Positions.{Line, Site, counted, line_after, site_behind}
+use Rattle.dt_place.specs.Positions.{IsRead, Line, Site, counted, first_line, line_after, site_at, site_behind}
 
 eqb_not : (m n : ℕ) → (m ≡ n → ⊥) → eqb m n ≡ false
 eqb_not m n h = go (eqb m n) refl
@@ -92,8 +93,40 @@ byte_step s line new start i begin all le lt other same e h =
     ∙ ap (λ r. site_behind line r (drop (i + 1) s)) (range_more s start i le lt)
     ∙ sym (site_next line (slice_range s start i) s i lt (eqb_not _ _ other)) ∙ h
 
-pub whole : (s : List ℕ) (line : Line) (start i : ℕ) (all : Site) → start ≤ i → i ≤ length s → length s ≤ i → site_behind line (slice_range s start i) (drop i s) ≡ all → record { line = line; column = length s - start + 1 } ≡ all
-whole s line start i all le within end h =
-    let e : length s - start + 1 ≡ length (slice_range s start i) + 1 = omega (arith, length_range s start i le within) in
+front_range : (s : List ℕ) (a i n : ℕ) → i ≤ n → slice_range (take n s) a i ≡ slice_range s a i
+front_range s a i n le = between_is (take n s) a i ∙ ap (drop a) (take-take i n s le) ∙ sym (between_is s a i)
+
+front_byte : (s : List ℕ) (i n : ℕ) → i < n → get_or (take n s) i 0 ≡ get_or s i 0
+front_byte s i n lt = get_or-take n s i 0 lt
+
+front_length : (s : List ℕ) (i n : ℕ) → i < n → i < length s → i < length (take n s)
+front_length s i n le lt = omega (arith, length-take n s)
+
+-- behind a line feed
+pub read_feed : (s : List ℕ) (line new : Line) (start i begin : ℕ) → start ≤ i → i < length s → get_or s i 0 ≡ 10 → new ≡ line_after (slice_range s start i) line → begin ≡ i + 1 → IsRead s line start i → IsRead s new begin (i + 1)
+read_feed s line new start i begin le lt ten same e read n ahead =
+    let less : i < n = omega arith in
+    let here : i ≤ n = omega arith in
+    feed_step (take n s) line new start i begin (site_at s n) (front_length s i n less lt) (front_byte s i n less ∙ ten)
+    (same ∙ ap (λ r. line_after r line) (sym (front_range s start i n here))) e (read n here)
+
+-- behind any other byte
+pub read_byte : (s : List ℕ) (line new : Line) (start i begin : ℕ) → start ≤ i → i < length s → (get_or s i 0 ≡ 10 → ⊥) → new ≡ line → begin ≡ start → IsRead s line start i → IsRead s new begin (i + 1)
+read_byte s line new start i begin le lt other same e read n ahead =
+    let less : i < n = omega arith in
+    let here : i ≤ n = omega arith in
+    byte_step (take n s) line new start i begin (site_at s n) le (front_length s i n less lt)
+    (λ ten. other (sym (front_byte s i n less) ∙ ten)) same e (read n here)
+
+pub read_nothing : (s : List ℕ) → IsRead s first_line 0 0
+read_nothing s n ahead = refl
+
+-- where what is read ends
+pub read_here : (s : List ℕ) (line : Line) (start i : ℕ) → start ≤ i → i ≤ length s → IsRead s line start i → record { line = line; column = i - start + 1 } ≡ site_at s i
+read_here s line start i le within read =
+    let here : i ≤ i = omega arith in
+    let count : length (take i s) ≡ i = length-take-le i s within in
     let behind : ℕ → Site = λ n. record { line = line; column = n } in
-    ap behind e ∙ sym (site_end line (slice_range s start i) s i end) ∙ h
+    let e : i - start + 1 ≡ length (slice_range (take i s) start i) + 1 = omega (arith, length_range (take i s) start i le (omega (arith, count))) in
+    let end : length (take i s) ≤ i = omega (arith, count) in
+    ap behind e ∙ sym (site_end line (slice_range (take i s) start i) (take i s) i end) ∙ read i here

@@ -1,6 +1,6 @@
 -- Files and lines of a text that the C preprocessor made (GNU C preprocessor, "Preprocessor output"): a line marker
 -- `# 12 "board.dtsi" 1` says from which file and line the line behind it came.
-use Rattle.std.specs.Prelude.{ℕ, ◌+◌, ◌-◌, ◌*◌, ◌==◌, nat_lt, Bool, false, ◌&&◌, List, [], ◌∷◌, ◌++◌, length, take, drop, position, Option, Some, None, option_map, if◌then◌else◌}
+use Rattle.std.specs.Prelude.{ℕ, ◌+◌, ◌-◌, ◌*◌, ◌==◌, ◌≤◌, ◌≡◌, nat_lt, Bool, false, ◌&&◌, List, [], ◌∷◌, ◌++◌, length, take, drop, slice_range, position, Option, Some, None, option_map, if◌then◌else◌}
 use Rattle.dt_lexeme.specs.Bytes.{is_digit}
 use Rattle.dt_lexeme.specs.Gaps.{begins_digit}
 use Rattle.dt_place.specs.declared.marker.Origin.{Origin}
@@ -74,3 +74,13 @@ line_of o = record { file = option_map (λ f. f.now) o.file; number = o.line }
 
 abbrev pub site_of : Position → Site
 site_of p = record { line = record { file = option_map (λ f. f.now) p.file; number = p.line }; column = p.column }
+
+-- Of a line that begins at this place and is read up to there: what any longer front of the text comes to, it comes to from here.
+abbrev pub IsRead : List ℕ → Line → ℕ → ℕ → Type 0
+IsRead text line start end =
+    (place : ℕ) → end ≤ place
+    → site_behind line (slice_range (take place text) start end) (drop end (take place text)) ≡ site_at text place
+
+abbrev pub IsCursor : List ℕ → Origin → ℕ → ℕ → Type 0
+IsCursor text origin start end =
+    (start ≤ end) × (end ≤ length text) × (origin.line ≤ 1000000000 + start) × IsRead text (line_of origin) start end

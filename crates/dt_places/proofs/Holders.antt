@@ -50,10 +50,10 @@ IsAfter None j = Unit {0}
 IsAfter (Some i) j = i < j
 
 module _ {V : Type 0} (d : PlacedTree V) (label : List ℕ) where
-  abbrev nodes : List (Place (Unit {0}))
+  abbrev nodes : List (Place ℕ)
   nodes = rows_in d.nodes
 
-  abbrev rows : List (Place (Unit {0}))
+  abbrev rows : List (Place ℕ)
   rows = rows_in d.labels
 
   -- a row of the label that stands
@@ -134,7 +134,7 @@ module _ {V : Type 0} (d : PlacedTree V) (sound : IsPlacedTree d) (label : List 
     seen = map (label_seen (rows_in d.nodes)) (rows_in d.labels)
 
     abbrev dummy : Row Label
-    dummy = label_seen {L = Unit {0}} (rows_in d.nodes) no_place
+    dummy = label_seen {L = ℕ} (rows_in d.nodes) no_place
 
     seen-at : (j : ℕ) → j < length (rows_in d.labels) → slice_index_or seen j dummy ≡ label_seen (rows_in d.nodes) (place_at (rows_in d.labels) j)
     seen-at j below = get_or-map (label_seen (rows_in d.nodes)) (rows_in d.labels) j no_place dummy below

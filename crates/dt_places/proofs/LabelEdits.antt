@@ -1,5 +1,5 @@
 -- A label is given, a node is marked, and the root begins.
-use Rattle.std.proofs.Common.{◌≡◌, ℕ, ◌<◌, ◌≤◌, Bool, true, false, not, ◌&&◌, ◌||◌, inl, inr, nat_le, List, [], ◌∷◌, ◌++◌, length, map, slice_set, reverse, Some, None, Bor, if◌then◌else◌, refl, sym, ap, ap₂, ◌∙◌, subst, arith}
+use Rattle.std.proofs.Common.{◌≡◌, ℕ, ◌<◌, ◌≤◌, Bool, true, false, not, ◌&&◌, ◌||◌, inl, inr, nat_le, List, [], ◌∷◌, ◌++◌, length, map, slice_set, reverse, Option, Some, None, Bor, if◌then◌else◌, refl, sym, ap, ap₂, ◌∙◌, subst, arith}
 use Rattle.std.specs.Prelude.{slice_index_or}
 use Rattle.std.specs.Str.{bytes_eq}
 use Rattle.std.proofs.lemmas.Bool.{and_from, and_parts, cases_eq, cases_lt, le-leb}
@@ -42,10 +42,10 @@ with-labels nodes fn ps fp ls fl clock sound qs fq table owners early = record {
 }
 
 module _ {V : Type 0} (d : PlacedTree V) (sound : IsPlacedTree d) (node : ℕ) (standing : IsStanding d node) (label : Bor (List ℕ)) where
-  abbrev nodes : List (Place (Unit {0}))
+  abbrev nodes : List (Place ℕ)
   nodes = rows_in d.nodes
 
-  abbrev rows : List (Place (Unit {0}))
+  abbrev rows : List (Place ℕ)
   rows = rows_in d.labels
 
   abbrev found : Found
@@ -54,30 +54,30 @@ module _ {V : Type 0} (d : PlacedTree V) (sound : IsPlacedTree d) (node : ℕ) (
   mine : IsOwner nodes (found_in d.nodes) node
   mine = own d sound node standing label
 
-  abbrev given : Place (Unit {0})
-  given = record { owner = node; name = label; value = None; made = d.clock; removed = false; again = false }
+  abbrev given : Option ℕ → Place ℕ
+  given value = record { owner = node; name = label; value = value; made = d.clock; removed = false; again = false }
 
-  abbrev Sound : List (Place (Unit {0})) → Found → Type 0
+  abbrev Sound : List (Place ℕ) → Found → Type 0
   Sound rs fs = AreSound nodes (found_in d.nodes) (rows_in d.properties) (found_in d.properties) rs fs d.clock
 
-  with-rows : (rs : List (Place (Unit {0}))) (fs : Found) → IsTable rs fs → ((k : ℕ) → IsOwner nodes (found_in d.nodes) (place_at rs k).owner) → ((k : ℕ) → (place_at rs k).made ≤ d.clock) → Sound rs fs
+  with-rows : (rs : List (Place ℕ)) (fs : Found) → IsTable rs fs → ((k : ℕ) → IsOwner nodes (found_in d.nodes) (place_at rs k).owner) → ((k : ℕ) → (place_at rs k).made ≤ d.clock) → Sound rs fs
   with-rows = with-labels nodes (found_in d.nodes) (rows_in d.properties) (found_in d.properties) rows found d.clock sound.tables
 
   none-owner : IsOwner nodes (found_in d.nodes) 0
   none-owner k e = absurd (omega (arith, e))
 
   -- ---- soundness
-  pub sound-given : (i : ℕ) (new : Table (Unit {0})) → Enters given d.labels new (New i) → Sound (rows_in new) (found_in new)
-  sound-given i new e =
-      subst (λ (rs : List (Place (Unit {0}))). Sound rs (found_in new)) (sym e.2)
-      (with-rows (pushed rows given) (found_in new)
-      (table-new rows given found (found_in new) sound.tables.labels_table e.0 refl (λ n k. e.3 n k ∙ ap (λ m. if is_key node label.now n k then Some m else found n k) e.1))
-      (each-pushed rows given (λ x. IsOwner nodes (found_in d.nodes) x.owner) sound.tables.label_owners mine none-owner)
-      (each-pushed rows given (λ x. x.made ≤ d.clock) sound.tables.early_labels (omega arith) (omega arith)))
+  pub sound-given : (value : Option ℕ) (i : ℕ) (new : Table ℕ) → Enters (given value) d.labels new (New i) → Sound (rows_in new) (found_in new)
+  sound-given value i new e =
+      subst (λ (rs : List (Place ℕ)). Sound rs (found_in new)) (sym e.2)
+      (with-rows (pushed rows (given value)) (found_in new)
+      (table-new rows (given value) found (found_in new) sound.tables.labels_table e.0 refl (λ n k. e.3 n k ∙ ap (λ m. if is_key node label.now n k then Some m else found n k) e.1))
+      (each-pushed rows (given value) (λ x. IsOwner nodes (found_in d.nodes) x.owner) sound.tables.label_owners mine none-owner)
+      (each-pushed rows (given value) (λ x. x.made ≤ d.clock) sound.tables.early_labels (omega arith) (omega arith)))
 
-  pub single-given : (i : ℕ) (new : Table (Unit {0})) → Enters given d.labels new (New i) → (k : ℕ) → (place_at (rows_in new) k).again ≡ false
-  single-given i new e k =
-      ap (λ rs. (place_at rs k).again) e.2 ∙ each-pushed rows given (λ x. x.again ≡ false) sound.single refl refl k
+  pub single-given : (value : Option ℕ) (i : ℕ) (new : Table ℕ) → Enters (given value) d.labels new (New i) → (k : ℕ) → (place_at (rows_in new) k).again ≡ false
+  single-given value i new e k =
+      ap (λ rs. (place_at rs k).again) e.2 ∙ each-pushed rows (given value) (λ x. x.again ≡ false) sound.single refl refl k
 
   module _ (i : ℕ) (has : found node label.now ≡ Some i) where
     pub within : i < length rows
@@ -86,16 +86,16 @@ module _ {V : Type 0} (d : PlacedTree V) (sound : IsPlacedTree d) (node : ℕ) (
     key : HasKey rows i node label.now
     key = (sound.tables.labels_table.right node label.now i has).1
 
-    pub sound-set : (r : Place (Unit {0})) (rows' : List (Place (Unit {0}))) (found' : Found) → found' ≡ found → r.owner ≡ (place_at rows i).owner → r.name.now ≡ (place_at rows i).name.now → r.again ≡ (place_at rows i).again → r.made ≤ d.clock
+    pub sound-set : (r : Place ℕ) (rows' : List (Place ℕ)) (found' : Found) → found' ≡ found → r.owner ≡ (place_at rows i).owner → r.name.now ≡ (place_at rows i).name.now → r.again ≡ (place_at rows i).again → r.made ≤ d.clock
         → rows' ≡ slice_set rows i r → Sound rows' found'
     sound-set r rows' found' same owner named again early is =
         subst (λ (fs : Found). Sound rows' fs) (sym same)
-        (subst (λ (rs : List (Place (Unit {0}))). Sound rs found) (sym is)
+        (subst (λ (rs : List (Place ℕ)). Sound rs found) (sym is)
         (with-rows (slice_set rows i r) found (table-set rows i r within owner named found sound.tables.labels_table (ap₂ found key.0 key.1 ∙ has) again)
         (each-set rows i r within (λ x. IsOwner nodes (found_in d.nodes) x.owner) sound.tables.label_owners (subst (λ (n : ℕ). IsOwner nodes (found_in d.nodes) n) (sym (owner ∙ key.0)) mine))
         (each-set rows i r within (λ x. x.made ≤ d.clock) sound.tables.early_labels early)))
 
-    pub single-set : (r : Place (Unit {0})) (rows' : List (Place (Unit {0}))) → r.again ≡ (place_at rows i).again → rows' ≡ slice_set rows i r → (k : ℕ) → (place_at rows' k).again ≡ false
+    pub single-set : (r : Place ℕ) (rows' : List (Place ℕ)) → r.again ≡ (place_at rows i).again → rows' ≡ slice_set rows i r → (k : ℕ) → (place_at rows' k).again ≡ false
     single-set r rows' again is k =
         ap (λ rs. (place_at rs k).again) is ∙ each-set rows i r within (λ x. x.again ≡ false) sound.single (again ∙ sound.single i) k
 
@@ -103,7 +103,7 @@ module _ {V : Type 0} (d : PlacedTree V) (sound : IsPlacedTree d) (node : ℕ) (
   abbrev p : Path
   p = node_path d node
 
-  abbrev f : Place (Unit {0}) → Row Label
+  abbrev f : Place ℕ → Row Label
   f = label_seen nodes
 
   abbrev is : Label → Bool
@@ -123,7 +123,7 @@ module _ {V : Type 0} (d : PlacedTree V) (sound : IsPlacedTree d) (node : ℕ) (
   gone : (j : ℕ) → (place_at rows j).removed ≡ true → (f (place_at rows j)).stands ≡ false
   gone j = removed-gone nodes (place_at rows j)
 
-  seen-given : (r : Place (Unit {0})) → r.owner ≡ node → r.name.now ≡ label.now → r.made ≡ d.clock → r.removed ≡ false → f r ≡ row (labelled_at label.now p)
+  seen-given : (r : Place ℕ) → r.owner ≡ node → r.name.now ≡ label.now → r.made ≡ d.clock → r.removed ≡ false → f r ≡ row (labelled_at label.now p)
   seen-given r owner named made kept =
       ap₂ (λ n o. record { what = labelled_at n (path_of nodes o); stands = (not r.removed && nat_le (made_at nodes o) r.made) && holds nodes o }) named owner
       ∙ ap₂ (λ x m. record { what = labelled_at label.now p; stands = (not x && nat_le (made_at nodes node) m) && holds nodes node }) kept made
@@ -132,13 +132,13 @@ module _ {V : Type 0} (d : PlacedTree V) (sound : IsPlacedTree d) (node : ℕ) (
   abbrev with_labels : (read : V → List Piece) → List (Row Label) → DtcTree
   with_labels read ls = record (dtc_tree read d) { labels = ls }
 
-  pub given-new : (read : V → List Piece) (rows' : List (Place (Unit {0}))) → found node label.now ≡ None → rows' ≡ rows ++ given ∷ [] → with_labels read (map f rows') ≡ with_labels_at (label.now ∷ []) p (dtc_tree read d)
-  given-new read rows' none at =
+  pub given-new : (value : Option ℕ) (read : V → List Piece) (rows' : List (Place ℕ)) → found node label.now ≡ None → rows' ≡ rows ++ given value ∷ [] → with_labels read (map f rows') ≡ with_labels_at (label.now ∷ []) p (dtc_tree read d)
+  given-new value read rows' none at =
       ap (with_labels read)
-      (ap (map f) at ∙ map_push f rows given ∙ ap (λ x. map f rows ++ x ∷ []) (seen-given given refl refl refl refl)
+      (ap (map f) at ∙ map_push f rows (given value) ∙ ap (λ x. map f rows ++ x ∷ []) (seen-given (given value) refl refl refl refl)
       ∙ sym (seen-put-none rows found sound.tables.labels_table node label.now f is to of gone (labelled_at label.now p) none))
 
-  pub given-again : (read : V → List Piece) (i : ℕ) (r : Place (Unit {0})) (rows' : List (Place (Unit {0}))) → found node label.now ≡ Some i → r.owner ≡ (place_at rows i).owner → r.name.now ≡ (place_at rows i).name.now → r.made ≡ d.clock → r.removed ≡ false
+  pub given-again : (read : V → List Piece) (i : ℕ) (r : Place ℕ) (rows' : List (Place ℕ)) → found node label.now ≡ Some i → r.owner ≡ (place_at rows i).owner → r.name.now ≡ (place_at rows i).name.now → r.made ≡ d.clock → r.removed ≡ false
       → rows' ≡ slice_set rows i r → with_labels read (map f rows') ≡ with_labels_at (label.now ∷ []) p (dtc_tree read d)
   given-again read i r rows' has owner named made kept at =
       let k = (sound.tables.labels_table.right node label.now i has).1 in
@@ -180,6 +180,6 @@ begun-tree read d empty true e =
     ap (λ b. record (dtc_tree read d) { nodes = root_rows b ++ map (node_seen (rows_in d.nodes)) (rows_in d.nodes) }) (sym e)
     ∙ sym (ap (λ b. if b then dtc_tree read d else record (dtc_tree read d) { nodes = (dtc_tree read d).nodes ++ row [] ∷ [] }) (root-there read d true e))
 begun-tree read d empty false e =
-    ap (λ xs. record (dtc_tree read d) { nodes = xs }) (ap (λ (rs : List (Place (Unit {0}))). row [] ∷ map (node_seen rs) rs) (empty e)
-    ∙ sym (ap₂ (λ (b : Bool) (rs : List (Place (Unit {0}))). (root_rows b ++ map (node_seen rs) rs) ++ row [] ∷ []) e (empty e)))
+    ap (λ xs. record (dtc_tree read d) { nodes = xs }) (ap (λ (rs : List (Place ℕ)). row [] ∷ map (node_seen rs) rs) (empty e)
+    ∙ sym (ap₂ (λ (b : Bool) (rs : List (Place ℕ)). (root_rows b ++ map (node_seen rs) rs) ++ row [] ∷ []) e (empty e)))
     ∙ sym (ap (λ b. if b then dtc_tree read d else record (dtc_tree read d) { nodes = (dtc_tree read d).nodes ++ row [] ∷ [] }) (root-there read d false e))

@@ -40,16 +40,16 @@ once-more xs y once new =
     (each-more (λ x. same_label y x ≡ false) (λ x. IsOtherWord x y) xs (λ x h. bytes_eq-comm x.label y.label ∙ h) (none-so (same_label y) xs new)))
 
 module _ {V : Type 0} (d : PlacedTree V) (row : ℕ) (within : row < length (rows_in d.labels)) where
-  abbrev nodes : List (Place (Unit {0}))
+  abbrev nodes : List (Place ℕ)
   nodes = rows_in d.nodes
 
-  abbrev rows : List (Place (Unit {0}))
+  abbrev rows : List (Place ℕ)
   rows = rows_in d.labels
 
-  abbrev seen : Place (Unit {0}) → Row Label
+  abbrev seen : Place ℕ → Row Label
   seen = label_seen nodes
 
-  abbrev r : Place (Unit {0})
+  abbrev r : Place ℕ
   r = place_at rows row
 
   abbrev before : List Label

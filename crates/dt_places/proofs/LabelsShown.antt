@@ -44,16 +44,16 @@ none-of P p n (e ∷ es) all apart =
       by_test false is = refl
 
 module _ {V : Type 0} (d : PlacedTree V) (sound : IsPlacedTree d) (row : ℕ) (within : row < length (rows_in d.labels)) where
-  abbrev nodes : List (Place (Unit {0}))
+  abbrev nodes : List (Place ℕ)
   nodes = rows_in d.nodes
 
-  abbrev rows : List (Place (Unit {0}))
+  abbrev rows : List (Place ℕ)
   rows = rows_in d.labels
 
-  abbrev seen : Place (Unit {0}) → Row Label
+  abbrev seen : Place ℕ → Row Label
   seen = label_seen nodes
 
-  abbrev r : Place (Unit {0})
+  abbrev r : Place ℕ
   r = place_at rows row
 
   seen-more : what_stands (map seen (reverse (drop row rows))) ≡ what_stands (map seen (reverse (drop (row + 1) rows))) ++ (if is_there nodes r then (seen r).what ∷ [] else [])

@@ -91,7 +91,7 @@ by-not true f = absurd (f refl)
 by-not false f = refl
 
 module _ {V : Type 0} (d : PlacedTree V) (sound : IsPlacedTree d) (node : ℕ) (standing : IsStanding d node) where
-  abbrev nodes : List (Place (Unit {0}))
+  abbrev nodes : List (Place ℕ)
   nodes = rows_in d.nodes
 
   own : IsOwner nodes (found_in d.nodes) node
@@ -104,7 +104,7 @@ module _ {V : Type 0} (d : PlacedTree V) (sound : IsPlacedTree d) (node : ℕ) (
   abbrev is_child : Row Path → Bool
   is_child r = is_some (name_below p r.what)
 
-  abbrev seen : Place (Unit {0}) → Row Path
+  abbrev seen : Place ℕ → Row Path
   seen = node_seen nodes
 
   seen_at : (j : ℕ) → j < length nodes → slice_index_or (map seen nodes) j (seen no_place) ≡ seen (place_at nodes j)

@@ -1,5 +1,5 @@
 -- A child in the body with which its parent begins.
-use Rattle.std.proofs.Common.{◌≡◌, ℕ, suc, ◌<◌, ◌≤◌, Bool, true, false, not, ◌&&◌, nat_le, List, [], ◌∷◌, ◌++◌, length, map, slice_set, Some, None, Ok, Err, Bor, if◌then◌else◌, refl, sym, ap, ap₂, ◌∙◌, subst, arith}
+use Rattle.std.proofs.Common.{◌≡◌, ℕ, suc, ◌<◌, ◌≤◌, Bool, true, false, not, ◌&&◌, nat_le, List, [], ◌∷◌, ◌++◌, length, map, slice_set, Option, Some, None, Ok, Err, Bor, if◌then◌else◌, refl, sym, ap, ap₂, ◌∙◌, subst, arith}
 use Rattle.std.specs.Prelude.{slice_index_or}
 use Rattle.std.proofs.lemmas.Bool.{le-leb, lt-leb}
 use Rattle.dt_meaning.specs.Paths.{Path, same_path}
@@ -30,37 +30,37 @@ not-root [] n = refl
 not-root (x ∷ p) n = refl
 
 -- a row was added: what there was, with it behind
-pub record IsAdded {V : Type 0} (d : PlacedTree V) (parent : ℕ) (name : Bor (List ℕ)) (made : ℕ) (nodes : List (Place (Unit {0}))) (found : Found) : Type 0 where
-  pub r : Place (Unit {0})
+pub record IsAdded {V : Type 0} (d : PlacedTree V) (parent : ℕ) (name : Bor (List ℕ)) (made : ℕ) (nodes : List (Place ℕ)) (found : Found) : Type 0 where
+  pub r : Place ℕ
   pub owner : r.owner ≡ parent
   pub named : r.name.now ≡ name.now
   pub time : r.made ≡ made
   pub kept : r.removed ≡ false
-  pub base : List (Place (Unit {0}))
+  pub base : List (Place ℕ)
   pub ground : IsBase (rows_in d.nodes) base (found_in d.nodes) parent r.name.now
   pub is : nodes ≡ base ++ r ∷ []
   pub table : IsTable nodes found
   pub noted : (n : ℕ) (k : List ℕ) → found n k ≡ (if is_key r.owner r.name.now n k then Some (length (rows_in d.nodes)) else found_in d.nodes n k)
 
 module _ {V : Type 0} (d : PlacedTree V) (sound : IsPlacedTree d) (parent : ℕ) (standing : IsStanding d parent) (name : Bor (List ℕ)) where
-  abbrev nodes : List (Place (Unit {0}))
+  abbrev nodes : List (Place ℕ)
   nodes = rows_in d.nodes
 
   abbrev found : Found
   found = found_in d.nodes
 
-  abbrev entry : ℕ → Place (Unit {0})
-  entry made = record { owner = parent; name = name; value = None; made = made; removed = false; again = false }
+  abbrev entry : Option ℕ → ℕ → Place ℕ
+  entry value made = record { owner = parent; name = name; value = value; made = made; removed = false; again = false }
 
   pub mine : IsOwner nodes found parent
   mine = standing-owner nodes found sound.tables.nodes_table sound.tables.grown sound.tables.node_owners parent standing.known standing.there
 
   -- ---- how a row is added
-  pub added-new : (made i : ℕ) (new : Table (Unit {0})) → Enters (entry made) d.nodes new (New i) → IsAdded d parent name made (rows_in new) (found_in new)
-  added-new made i new e =
+  pub added-new : (value : Option ℕ) (made i : ℕ) (new : Table ℕ) → Enters (entry value made) d.nodes new (New i) → IsAdded d parent name made (rows_in new) (found_in new)
+  added-new value made i new e =
       let noted : (n : ℕ) (k : List ℕ) → found_in new n k ≡ (if is_key parent name.now n k then Some (length nodes) else found n k) = λ n k. e.3 n k ∙ ap (λ m. if is_key parent name.now n k then Some m else found n k) e.1 in
       record {
-        r = entry made;
+        r = entry value made;
         owner = refl;
         named = refl;
         time = refl;
@@ -68,7 +68,7 @@ module _ {V : Type 0} (d : PlacedTree V) (sound : IsPlacedTree d) (parent : ℕ)
         base = nodes;
         ground = old-base nodes found parent name.now sound.tables.grown e.0;
         is = e.2;
-        table = subst (λ (rs : List (Place (Unit {0}))). IsTable rs (found_in new)) (sym e.2) (table-new nodes (entry made) found (found_in new) sound.tables.nodes_table e.0 refl noted);
+        table = subst (λ (rs : List (Place ℕ)). IsTable rs (found_in new)) (sym e.2) (table-new nodes (entry value made) found (found_in new) sound.tables.nodes_table e.0 refl noted);
         noted = noted;
       }
 
@@ -86,17 +86,17 @@ module _ {V : Type 0} (d : PlacedTree V) (sound : IsPlacedTree d) (parent : ℕ)
           and-true true = refl
           and-true false = refl
 
-    pub added-again : (made : ℕ) (mid new : Table (Unit {0})) → rows_in mid ≡ nodes → found_in mid ≡ found → IsFresh d parent → is_made nodes (place_at nodes i) ≡ false
-        → rows_in new ≡ slice_set (rows_in mid) i (hidden (place_at (rows_in mid) i)) ++ (record (place_at (rows_in mid) i) { value = None; made = made; removed = false; again = true }) ∷ []
+    pub added-again : (value : Option ℕ) (made : ℕ) (mid new : Table ℕ) → rows_in mid ≡ nodes → found_in mid ≡ found → IsFresh d parent → is_made nodes (place_at nodes i) ≡ false
+        → rows_in new ≡ slice_set (rows_in mid) i (hidden (place_at (rows_in mid) i)) ++ (record (place_at (rows_in mid) i) { value = value; made = made; removed = false; again = true }) ∷ []
         → ((n : ℕ) (k : List ℕ) → found_in new n k ≡ (if is_key (place_at (rows_in mid) i).owner (place_at (rows_in mid) i).name.now n k then Some (length (rows_in mid)) else found_in mid n k))
         → IsAdded d parent name made (rows_in new) (found_in new)
-    added-again made mid new same same_found fresh away at noted =
+    added-again value made mid new same same_found fresh away at noted =
         let x = place_at nodes i in
-        let r : Place (Unit {0}) = record x { value = None; made = made; removed = false; again = true } in
+        let r : Place ℕ = record x { value = value; made = made; removed = false; again = true } in
         let h = hidden x in
-        let at' : rows_in new ≡ slice_set nodes i h ++ r ∷ [] = at ∙ ap (λ (rs : List (Place (Unit {0}))). slice_set rs i (hidden (place_at rs i)) ++ (record (place_at rs i) { value = None; made = made; removed = false; again = true }) ∷ []) same in
+        let at' : rows_in new ≡ slice_set nodes i h ++ r ∷ [] = at ∙ ap (λ (rs : List (Place ℕ)). slice_set rs i (hidden (place_at rs i)) ++ (record (place_at rs i) { value = value; made = made; removed = false; again = true }) ∷ []) same in
         let noted' : (n : ℕ) (k : List ℕ) → found_in new n k ≡ (if is_key x.owner x.name.now n k then Some (length nodes) else found n k) =
-        λ n k. noted n k ∙ ap₂ (λ (rs : List (Place (Unit {0}))) (fs : Found). if is_key (place_at rs i).owner (place_at rs i).name.now n k then Some (length rs) else fs n k) same same_found in
+        λ n k. noted n k ∙ ap₂ (λ (rs : List (Place ℕ)) (fs : Found). if is_key (place_at rs i).owner (place_at rs i).name.now n k then Some (length rs) else fs n k) same same_found in
         let none = holds-row false away in
         record {
           r = r;
@@ -107,13 +107,13 @@ module _ {V : Type 0} (d : PlacedTree V) (sound : IsPlacedTree d) (parent : ℕ)
           base = slice_set nodes i h;
           ground = mid-base nodes found parent x.name.now i known-row sound.tables.grown (ap (found parent) key.1 ∙ has) none (fresh i key.0 none);
           is = at';
-          table = subst (λ (rs : List (Place (Unit {0}))). IsTable rs (found_in new)) (sym at')
+          table = subst (λ (rs : List (Place ℕ)). IsTable rs (found_in new)) (sym at')
               (table-again nodes i h r found (found_in new) sound.tables.nodes_table known-row (ap₂ found key.0 key.1 ∙ has) refl refl refl refl refl refl refl noted');
           noted = noted';
         }
 
   -- ---- what is there
-  there-by : (r : Place (Unit {0})) (m : ℕ) (b : Bool) → r.owner ≡ parent → r.made ≡ m → r.removed ≡ false → nat_le (made_at nodes parent) m ≡ b → is_there nodes r ≡ b
+  there-by : (r : Place ℕ) (m : ℕ) (b : Bool) → r.owner ≡ parent → r.made ≡ m → r.removed ≡ false → nat_le (made_at nodes parent) m ≡ b → is_there nodes r ≡ b
   there-by r m b owner made kept e =
       ap₂ (λ x n. (not x && nat_le (made_at nodes n) r.made) && holds nodes n) kept owner
       ∙ ap (λ t. nat_le (made_at nodes parent) t && holds nodes parent) made
@@ -122,7 +122,7 @@ module _ {V : Type 0} (d : PlacedTree V) (sound : IsPlacedTree d) (parent : ℕ)
         and-true true = refl
         and-true false = refl
 
-  module _ (made : ℕ) (rows : List (Place (Unit {0}))) (at : Found) (a : IsAdded d parent name made rows at) where
+  module _ (made : ℕ) (rows : List (Place ℕ)) (at : Found) (a : IsAdded d parent name made rows at) where
     pub now-there : d.clock ≤ made → is_there nodes a.r ≡ true
     now-there late = there-by a.r made true a.owner a.time a.kept (le-leb (made_at nodes parent) made (omega (arith, early-node d sound parent standing name parent, late)))
 
@@ -166,7 +166,7 @@ module _ {V : Type 0} (d : PlacedTree V) (sound : IsPlacedTree d) (parent : ℕ)
     abbrev q : Path
     q = child_path d parent name.now
 
-    abbrev f : Place (Unit {0}) → Row Path
+    abbrev f : Place ℕ → Row Path
     f = node_seen nodes
 
     pub to : (j : ℕ) → same_path q (f (place_at nodes j)).what ≡ true → HasKey nodes j parent name.now

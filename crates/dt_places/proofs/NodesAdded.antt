@@ -72,11 +72,11 @@ pub tree-by : {a a' : List (Row Path)} {b b' : List (Row (Definition (List Piece
     → (let t : DtcTree = record { nodes = a; properties = b; labels = c; marked = e; fragments = n } in t) ≡ record { nodes = a'; properties = b'; labels = c'; marked = e'; fragments = n }
 tree-by n p q r s = λ i. record { nodes = p i; properties = q i; labels = r i; marked = s i; fragments = n }
 
-module _ {V : Type 0} (d : PlacedTree V) (sound : IsPlacedTree d) (parent : ℕ) (standing : IsStanding d parent) (r : Place (Unit {0})) (owner : r.owner ≡ parent)
-    (base new : List (Place (Unit {0}))) (found' : Found) (ground : IsBase (rows_in d.nodes) base (found_in d.nodes) parent r.name.now) (is : new ≡ base ++ r ∷ [])
+module _ {V : Type 0} (d : PlacedTree V) (sound : IsPlacedTree d) (parent : ℕ) (standing : IsStanding d parent) (r : Place ℕ) (owner : r.owner ≡ parent)
+    (base new : List (Place ℕ)) (found' : Found) (ground : IsBase (rows_in d.nodes) base (found_in d.nodes) parent r.name.now) (is : new ≡ base ++ r ∷ [])
     (table : IsTable new found') (noted : (n : ℕ) (k : List ℕ) → found' n k ≡ (if is_key r.owner r.name.now n k then Some (length (rows_in d.nodes)) else found_in d.nodes n k))
     (own : IsOwner (rows_in d.nodes) (found_in d.nodes) parent) where
-  abbrev old : List (Place (Unit {0}))
+  abbrev old : List (Place ℕ)
   old = rows_in d.nodes
 
   abbrev len : ℕ
@@ -85,14 +85,14 @@ module _ {V : Type 0} (d : PlacedTree V) (sound : IsPlacedTree d) (parent : ℕ)
   within : r.owner ≤ length base
   within = omega (arith, owner, standing.known, ground.long)
 
-  more : List (Place (Unit {0}))
+  more : List (Place ℕ)
   more = pushed base r
 
   long-new : length new ≡ len + 1
   long-new = ap length is ∙ length_push base r ∙ ap (λ n. n + 1) ground.long
 
   grown-new : IsGrown new
-  grown-new = subst (λ (rs : List (Place (Unit {0}))). IsGrown rs) (sym is) (grown-pushed base r ground.grown within)
+  grown-new = subst (λ (rs : List (Place ℕ)). IsGrown rs) (sym is) (grown-pushed base r ground.grown within)
 
   pub path-new : (n : ℕ) → n ≤ len → path_of new n ≡ path_of old n
   path-new n le = ap (λ rs. path_of rs n) is ∙ path-pushed base r ground.grown within n (omega (arith, le, ground.long)) ∙ ground.path n
@@ -128,7 +128,7 @@ module _ {V : Type 0} (d : PlacedTree V) (sound : IsPlacedTree d) (parent : ℕ)
   -- ---- soundness
   keep : (n : ℕ) → IsOwner old (found_in d.nodes) n → IsOwner new found' n
   keep n owns =
-      subst (λ (rs : List (Place (Unit {0}))). IsOwner rs found' n) (sym is)
+      subst (λ (rs : List (Place ℕ)). IsOwner rs found' n) (sym is)
       (owner-pushed base r ground.grown within (found_in d.nodes) found' noted-base n (λ k at has. ground.apart n owns k at (ap (λ m. found_in d.nodes m r.name.now) (sym owner) ∙ has)) (ground.keeps n owns)) where
         noted-base : (n : ℕ) (k : List ℕ) → found' n k ≡ (if is_key r.owner r.name.now n k then Some (length base) else found_in d.nodes n k)
         noted-base n k = noted n k ∙ ap (λ m. if is_key r.owner r.name.now n k then Some m else found_in d.nodes n k) (sym ground.long)

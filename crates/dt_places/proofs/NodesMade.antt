@@ -23,7 +23,7 @@ use Rattle.dt_places.proofs.RowTables.{each-set, set-here, set-there, table-set}
 use Rattle.dt_places.proofs.SeenRows.{seen-put}
 
 module _ {V : Type 0} (d : PlacedTree V) (sound : IsPlacedTree d) (parent : ℕ) (standing : IsStanding d parent) (name : Bor (List ℕ)) (i : ℕ) (has : found_in d.nodes parent name.now ≡ Some i) where
-  abbrev old : List (Place (Unit {0}))
+  abbrev old : List (Place ℕ)
   old = rows_in d.nodes
 
   abbrev found : Found
@@ -82,9 +82,9 @@ module _ {V : Type 0} (d : PlacedTree V) (sound : IsPlacedTree d) (parent : ℕ)
   }
 
   -- ---- it is made again
-  module _ (r : Place (Unit {0})) (owner : r.owner ≡ (place_at old i).owner) (named : r.name.now ≡ (place_at old i).name.now) (again : r.again ≡ (place_at old i).again) (late : d.clock < r.made) (kept : r.removed ≡ false)
+  module _ (r : Place ℕ) (owner : r.owner ≡ (place_at old i).owner) (named : r.name.now ≡ (place_at old i).name.now) (again : r.again ≡ (place_at old i).again) (late : d.clock < r.made) (kept : r.removed ≡ false)
       (away : is_made old (place_at old i) ≡ false) where
-    abbrev new : List (Place (Unit {0}))
+    abbrev new : List (Place ℕ)
     new = slice_set old i r
 
     here : place_at new i ≡ r

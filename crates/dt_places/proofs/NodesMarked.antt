@@ -33,7 +33,7 @@ by-not true f = absurd (f refl)
 by-not false f = refl
 
 module _ {V W : Type 0} (d : PlacedTree V) (sound : IsPlacedTree d) (s : Shown W) (has : HasNodesOf d s) where
-  abbrev nodes : List (Place (Unit {0}))
+  abbrev nodes : List (Place ℕ)
   nodes = rows_in d.nodes
 
   -- a node of the live tree is one that stands

@@ -42,13 +42,13 @@ removed-seen {Y} {W} is f g old new long same =
     get_or-map g new k no_place (h (f no_place)) under ∙ same k under'
     ∙ sym (get_or-map h (map f old) k (f no_place) (h (f no_place)) (omega (arith, under', length-map old f)) ∙ ap h (get_or-map f old k no_place (f no_place) under')))
 
-module _ {V : Type 0} (d : PlacedTree V) (sound : IsPlacedTree d) (i : ℕ) (within : i < length (rows_in d.nodes)) (counted : found_in d.nodes (place_at (rows_in d.nodes) i).owner (place_at (rows_in d.nodes) i).name.now ≡ Some i) (r : Place (Unit {0}))
+module _ {V : Type 0} (d : PlacedTree V) (sound : IsPlacedTree d) (i : ℕ) (within : i < length (rows_in d.nodes)) (counted : found_in d.nodes (place_at (rows_in d.nodes) i).owner (place_at (rows_in d.nodes) i).name.now ≡ Some i) (r : Place ℕ)
     (owner : r.owner ≡ (place_at (rows_in d.nodes) i).owner) (name : r.name.now ≡ (place_at (rows_in d.nodes) i).name.now) (made : r.made ≡ (place_at (rows_in d.nodes) i).made) (again : r.again ≡ (place_at (rows_in d.nodes) i).again)
     (removed : r.removed ≡ true) where
-  abbrev old : List (Place (Unit {0}))
+  abbrev old : List (Place ℕ)
   old = rows_in d.nodes
 
-  abbrev new : List (Place (Unit {0}))
+  abbrev new : List (Place ℕ)
   new = slice_set old i r
 
   abbrev p : Path
@@ -183,8 +183,8 @@ module _ {V : Type 0} (d : PlacedTree V) (sound : IsPlacedTree d) (parent : ℕ)
         let under : k < length (rows_in d.properties) = omega (arith, below, length-map (rows_in d.properties) (property_seen read nodes)) in
         ap (λ x. is_within q x.what.path) (get_or-map (property_seen read nodes) (rows_in d.properties) k no_place (property_seen read nodes no_place) under)
         ∙ out (place_at (rows_in d.properties) k).owner (sound.tables.property_owners k)))
-        (none-removed (λ l. is_within q l.path) (label_seen {L = Unit {0}} nodes no_place) (map (label_seen nodes) (rows_in d.labels)) (λ k below.
+        (none-removed (λ l. is_within q l.path) (label_seen {L = ℕ} nodes no_place) (map (label_seen nodes) (rows_in d.labels)) (λ k below.
         let under : k < length (rows_in d.labels) = omega (arith, below, length-map (rows_in d.labels) (label_seen nodes)) in
-        ap (λ x. is_within q x.what.path) (get_or-map (label_seen nodes) (rows_in d.labels) k no_place (label_seen {L = Unit {0}} nodes no_place) under)
+        ap (λ x. is_within q x.what.path) (get_or-map (label_seen nodes) (rows_in d.labels) k no_place (label_seen {L = ℕ} nodes no_place) under)
         ∙ out (place_at (rows_in d.labels) k).owner (sound.tables.label_owners k)))
         refl)

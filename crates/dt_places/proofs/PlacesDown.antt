@@ -50,7 +50,7 @@ abbrev pub no_pieces : {V : Type 0} → V → List Piece
 no_pieces v = []
 
 module _ {V : Type 0} (d : PlacedTree V) (sound : IsPlacedTree d) where
-  abbrev nodes : List (Place (Unit {0}))
+  abbrev nodes : List (Place ℕ)
   nodes = rows_in d.nodes
 
   abbrev seen : List (Row Path)

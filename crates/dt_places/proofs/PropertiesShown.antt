@@ -52,7 +52,7 @@ any-read read p n (e ∷ es) = ap (λ b. is_of p n e || b) (any-read read p n es
 
 -- ---- one row
 module _ {V : Type 0} (d : PlacedTree V) (sound : IsPlacedTree d) (row : ℕ) (within : row < length (rows_in d.properties)) where
-  abbrev nodes : List (Place (Unit {0}))
+  abbrev nodes : List (Place ℕ)
   nodes = rows_in d.nodes
 
   abbrev rows : List (Place V)

@@ -49,7 +49,7 @@ no-owner : {X : Type 0} (nodes : List (Place X)) (found : Found) → IsOwner nod
 no-owner nodes found k e = absurd (omega (arith, e))
 
 module _ {V : Type 0} (d : PlacedTree V) (sound : IsPlacedTree d) (node : ℕ) (standing : IsStanding d node) (name : Bor (List ℕ)) where
-  abbrev nodes : List (Place (Unit {0}))
+  abbrev nodes : List (Place ℕ)
   nodes = rows_in d.nodes
 
   abbrev rows : List (Place V)

@@ -31,3 +31,33 @@ impl<T: Drop> From<AllocFailed<T>> for PlaceError {
         PlaceError::NoMemory
     }
 }
+
+/// Why what is left of a tree can't be shown.
+#[derive(Debug, Clone, Copy, PartialEq, Eq, Drop)]
+pub enum StandError {
+    NoMemory,
+    /// A label stands at two nodes: where the name or the reference begins before which it stands the second time, in bytes.
+    DuplicateLabel { at: u32 },
+}
+
+impl From<AllocError> for StandError {
+    ghost use Rattle.std.specs.Prelude.{◌≡◌};
+    ghost use Rattle.dt_places.specs.declared.error.StandError.TheVariants.{NoMemory};
+
+    ghost from_gives = { λ _ e. e ≡ NoMemory };
+
+    fn from(_e: AllocError) -> StandError {
+        StandError::NoMemory
+    }
+}
+
+impl<T: Drop> From<AllocFailed<T>> for StandError {
+    ghost use Rattle.std.specs.Prelude.{◌≡◌};
+    ghost use Rattle.dt_places.specs.declared.error.StandError.TheVariants.{NoMemory};
+
+    ghost from_gives = { λ _ e. e ≡ NoMemory };
+
+    fn from(_e: AllocFailed<T>) -> StandError {
+        StandError::NoMemory
+    }
+}

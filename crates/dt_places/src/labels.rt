@@ -1,17 +1,31 @@
 //! The labels of nodes.
-ghost use Rattle.std.specs.Prelude.{◌≡◌, ◌∷◌, [], List, OnOk};
+ghost use Rattle.std.specs.Prelude.{◌≡◌, ◌≤◌, ◌∷◌, [], List, OnOk, Some, if◌then◌else◌, length};
 ghost use Rattle.dt_meaning.specs.Syntax.{Piece};
 ghost use Rattle.dt_meaning.specs.DtcEdits.{with_labels_at};
 ghost use Rattle.dt_places.specs.PlacedTrees.{IsPlacedTree, IsStanding, dtc_tree, node_path};
 ghost use Rattle.dt_places.specs.PlacedEdits.{HasSameNodes};
+ghost use Rattle.dt_places.specs.Rows.{is_made};
 
+use crate::place::{Place, is_made};
 use crate::placed_tree::PlacedTree;
 use crate::table::Entry;
 use std::alloc::AllocError;
 
+// Where a label was given that its node has, else where it is given now.
+fn first_given(nodes: &[Place<'_, u32>], label: &Place<'_, u32>, at: u32) -> Option<u32>
+    requires { label.now.owner ≤ length nodes.now }
+    ensures { result ≡ (if is_made nodes.now label.now then label.now.value else Some at) }
+{
+    if is_made(nodes, label) {
+        return label.value;
+    }
+    Some(at)
+}
+
 impl<'d, V: Copy> PlacedTree<'d, V> {
-    /// Gives a label to a node, at the place that it has there, or behind the others. Other nodes may have it as well.
-    pub fn give_label(&mut self, label: &'d [u8], node: usize) -> Result<(), AllocError>
+    /// Gives a label to a node, at the place that it has there, or behind the others. Other nodes may have it as well. Where the name
+    /// or the reference begins before which it stands, in bytes, is kept of it, unless the node has the label.
+    pub fn give_label(&mut self, label: &'d [u8], node: usize, at: u32) -> Result<(), AllocError>
         requires sound { IsPlacedTree self.old }
         requires node { IsStanding self.old node }
         ensures sound { OnOk result (IsPlacedTree self.new) }
@@ -20,7 +34,7 @@ impl<'d, V: Copy> PlacedTree<'d, V> {
         ensures tree { OnOk result ((read : V → List Piece) → dtc_tree read self.new ≡ with_labels_at (label.now ∷ []) (node_path self.old node) (dtc_tree read self.old)) }
     {
         let made = self.clock;
-        match self.labels.enter(node, label, None, made)? {
+        match self.labels.enter(node, label, Some(at), made)? {
             Entry::New(row) => {
                 let older = self.heads.get(0, label);
                 self.older.push(older)?;
@@ -28,7 +42,9 @@ impl<'d, V: Copy> PlacedTree<'d, V> {
                 Ok(())
             }
             Entry::Found(row) => {
+                let given = first_given(self.nodes.rows.as_slice(), &self.labels.rows[row], at);
                 let place = &mut self.labels.rows[row];
+                place.value = given;
                 place.made = made;
                 place.removed = false;
                 Ok(())

@@ -18,7 +18,7 @@ mod shown;
 mod standing;
 mod table;
 
-pub use error::PlaceError;
+pub use error::{PlaceError, StandError};
 pub use nodes::MadeNode;
 pub use place::Place;
 pub use placed_tree::PlacedTree;

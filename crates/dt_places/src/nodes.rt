@@ -21,8 +21,8 @@ pub struct MadeNode {
 
 impl<'d, V: Copy> PlacedTree<'d, V> {
     /// A child in the body with which its parent begins: one that is there is refused, and one that the body only deleted gets a
-    /// second place.
-    pub fn new_node(&mut self, parent: usize, name: &'d [u8]) -> Result<usize, PlaceError>
+    /// second place. Where its name begins in the text, in bytes, is kept of it.
+    pub fn new_node(&mut self, parent: usize, name: &'d [u8], at: u32) -> Result<usize, PlaceError>
         requires sound { IsPlacedTree self.old }
         requires parent { IsStanding self.old parent }
         requires fresh { IsFresh self.old parent }
@@ -40,20 +40,26 @@ impl<'d, V: Copy> PlacedTree<'d, V> {
             None => return Err(PlaceError::NoMemory),
         };
         self.clock = made;
-        match self.nodes.enter(parent, name, None, made)? {
+        match self.nodes.enter(parent, name, Some(at), made)? {
             Entry::New(row) => Ok(row + 1),
             Entry::Found(row) => {
                 if is_row_made(self.nodes.rows.as_slice(), row) {
                     return Err(PlaceError::DuplicateInBody);
                 }
-                let row = self.nodes.renew(row, None, made)?;
+                let row = self.nodes.renew(row, Some(at), made)?;
                 Ok(row + 1)
             }
         }
     }
 
-    /// A child in a later body: it begins, where it never had a place; else it is there, at its place.
-    pub fn make_node(&mut self, parent: usize, name: &'d [u8]) -> Result<MadeNode, PlaceError>
+    /// A child in a later body: it begins, where it never had a place; else it is there, at its place. Where its name begins in the text,
+    /// in bytes, is kept of it, unless it is there.
+    pub fn make_node(
+        &mut self,
+        parent: usize,
+        name: &'d [u8],
+        at: u32,
+    ) -> Result<MadeNode, PlaceError>
         requires sound { IsPlacedTree self.old }
         requires parent { IsStanding self.old parent }
         ensures sound { OnOk result (IsPlacedTree self.new) }
@@ -70,7 +76,7 @@ impl<'d, V: Copy> PlacedTree<'d, V> {
             None => return Err(PlaceError::NoMemory),
         };
         self.clock = made;
-        match self.nodes.enter(parent, name, None, made)? {
+        match self.nodes.enter(parent, name, Some(at), made)? {
             Entry::New(row) => {
                 Ok(MadeNode {
                     node: row + 1,
@@ -90,6 +96,7 @@ impl<'d, V: Copy> PlacedTree<'d, V> {
                     return Ok(merged);
                 }
                 let place = &mut self.nodes.rows[row];
+                place.value = Some(at);
                 place.made = made;
                 place.removed = false;
                 Ok(merged)

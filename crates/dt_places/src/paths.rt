@@ -14,7 +14,7 @@ use crate::placed_tree::PlacedTree;
 use crate::table::Table;
 
 // The child of this name, where it was made and not removed.
-fn child<'d>(nodes: &Table<'d, ()>, node: usize, name: &'d [u8]) -> Option<usize>
+fn child<'d>(nodes: &Table<'d, u32>, node: usize, name: &'d [u8]) -> Option<usize>
     requires table { IsTable (rows_in nodes.now) (found_in nodes.now) }
     requires grown { (k : ℕ) → (place_at (rows_in nodes.now) k).owner ≤ k }
     ensures { result ≡ child_in nodes.now node name.now }
@@ -27,7 +27,7 @@ fn child<'d>(nodes: &Table<'d, ()>, node: usize, name: &'d [u8]) -> Option<usize
 }
 
 // The node behind the names between slashes, from the root on.
-fn follow<'d>(nodes: &Table<'d, ()>, names: &'d [u8]) -> Option<usize>
+fn follow<'d>(nodes: &Table<'d, u32>, names: &'d [u8]) -> Option<usize>
     requires table { IsTable (rows_in nodes.now) (found_in nodes.now) }
     requires grown { (k : ℕ) → (place_at (rows_in nodes.now) k).owner ≤ k }
     ensures { result ≡ node_behind (child_in nodes.now) 0 (slice_split is_slash names.now) }

@@ -14,10 +14,11 @@ use std::hash::RandomState;
 /// below it is visited: whether it stands is found by climbing to the root.
 #[derive(Drop)]
 pub struct PlacedTree<'d, V> {
-    // node n has row n - 1; node 0 is the root
-    pub(crate) nodes: Table<'d, ()>,
+    // node n has row n - 1; node 0 is the root; a value is where the definition stands that made the node last
+    pub(crate) nodes: Table<'d, u32>,
     pub(crate) properties: Table<'d, V>,
-    pub(crate) labels: Table<'d, ()>,
+    // a value is where the text gives the label to the node
+    pub(crate) labels: Table<'d, u32>,
     // the last row of each label, at the node 0
     pub(crate) heads: Index<'d>,
     // of each row of a label the one before it

@@ -19,7 +19,7 @@ pub struct Shown<'d, W> {
 
 impl<'d, W: Copy> Shown<'d, W> {
     // Defines the node of a row, where it stands.
-    fn define(&mut self, nodes: &Table<'d, ()>, row: usize) -> Result<Option<usize>, AllocError>
+    fn define(&mut self, nodes: &Table<'d, u32>, row: usize) -> Result<Option<usize>, AllocError>
         requires rows { AreNodeRows (rows_in nodes.now) (found_in nodes.now) }
         requires known { row < length (rows_in nodes.now) }
         requires shown { AreShown (rows_in nodes.now) row self.old }
@@ -31,7 +31,7 @@ impl<'d, W: Copy> Shown<'d, W> {
         let place = nodes.rows[row];
         match self.numbers[place.owner] {
             Some(parent) => {
-                let (node, _) = self.live.define_child(parent, place.name, 0)?;
+                let (node, _) = self.live.define_child(parent, place.name, 0, place.at())?;
                 Ok(Some(node))
             }
             None => Ok(None),
@@ -39,7 +39,7 @@ impl<'d, W: Copy> Shown<'d, W> {
     }
 
     // Shows the next row, if its node stands.
-    fn show(&mut self, nodes: &Table<'d, ()>, row: usize) -> Result<(), AllocError>
+    fn show(&mut self, nodes: &Table<'d, u32>, row: usize) -> Result<(), AllocError>
         requires rows { AreNodeRows (rows_in nodes.now) (found_in nodes.now) }
         requires known { row < length (rows_in nodes.now) }
         requires shown { AreShown (rows_in nodes.now) row self.old }
@@ -55,7 +55,7 @@ impl<'d, W: Copy> Shown<'d, W> {
 pub(crate) fn show_nodes<'d, W: Copy>(
     alloc: Global,
     hasher: RandomState,
-    nodes: &Table<'d, ()>,
+    nodes: &Table<'d, u32>,
 ) -> Result<Shown<'d, W>, AllocError>
     requires { AreNodeRows (rows_in nodes.now) (found_in nodes.now) }
     ensures { IfOk result (λ shown. AreShown (rows_in nodes.now) (length (rows_in nodes.now)) shown) }

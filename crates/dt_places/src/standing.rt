@@ -1,5 +1,5 @@
 //! What stands when all is read.
-ghost use Rattle.std.specs.Prelude.{◌≡◌, ◌+◌, ◌<◌, [], Bool, IfOk, IsErrOf, OnOk, false, length, true};
+ghost use Rattle.std.specs.Prelude.{◌≡◌, ◌+◌, ◌<◌, [], Bool, IfOk, ℕ, IsErrOf, OnOk, false, length, true};
 ghost use Rattle.dt_meaning.specs.DtcEdits.{ever_labelled};
 ghost use Rattle.dt_meaning.specs.DtcStatements.{label_twice};
 ghost use Rattle.dt_meaning.specs.Paths.{Path, is_listed};
@@ -11,9 +11,9 @@ ghost use Rattle.dt_places.specs.PlacedTrees.{IsOwner, IsPlacedTree, dtc_tree, n
 ghost use Rattle.dt_places.specs.Standing.{AreMarked, HasNodesOf, HasProperties, or_at, shown_labels, worn_labels};
 ghost use Rattle.dt_places.specs.Tables.{found_in, rows_in};
 
+use crate::error::StandError;
 use crate::placed_tree::PlacedTree;
 use crate::shown::{Shown, show_nodes};
-use dt_live::LabelError;
 use std::alloc::{AllocError, Global};
 use std::hash::RandomState;
 
@@ -57,14 +57,14 @@ impl<'d, V: Copy> PlacedTree<'d, V> {
         alloc: Global,
         hasher: RandomState,
         shown: &mut Shown<'d, V>,
-    ) -> Result<(), LabelError>
+    ) -> Result<(), StandError>
         requires sound { IsPlacedTree self.now }
         requires shown { HasNodesOf self.now shown.old }
         requires unlabelled { (state_of shown.old.live).labels ≡ [] }
         ensures shown { OnOk result (HasNodesOf self.now shown.new) }
         ensures labels { OnOk result ((state_of shown.new.live).labels ≡ shown_labels self.now) }
         ensures properties { OnOk result ((state_of shown.new.live).properties ≡ (state_of shown.old.live).properties) }
-        ensures refused { IsErrOf result LabelError.DuplicateLabel → label_twice (worn_labels self.now) ≡ true }
+        ensures refused { (at : ℕ) → IsErrOf result (StandError.DuplicateLabel at) → label_twice (worn_labels self.now) ≡ true }
     {
         if !self.begun {
             return Ok(());
@@ -75,12 +75,12 @@ impl<'d, V: Copy> PlacedTree<'d, V> {
 
     /// What stands when all is read: nodes and properties in the order of their places, labels in that of the symbols. Refused
     /// exactly where a label stands at two nodes.
-    pub fn stand(&self, alloc: Global, hasher: RandomState) -> Result<Shown<'d, V>, LabelError>
+    pub fn stand(&self, alloc: Global, hasher: RandomState) -> Result<Shown<'d, V>, StandError>
         requires sound { IsPlacedTree self.now }
         ensures once { OnOk result (label_twice (worn_labels self.now) ≡ false) }
         ensures shown { IfOk result (HasNodesOf self.now) }
         ensures tree { IfOk result (ShowsTree self.now) }
-        ensures refused { IsErrOf result LabelError.DuplicateLabel → label_twice (worn_labels self.now) ≡ true }
+        ensures refused { (at : ℕ) → IsErrOf result (StandError.DuplicateLabel at) → label_twice (worn_labels self.now) ≡ true }
     {
         let mut shown: Shown<'d, V> = show_nodes(alloc, hasher, &self.nodes)?;
         self.show_properties(&mut shown)?;

@@ -3,7 +3,7 @@ use Rattle.std.proofs.Common.{◌≡◌, ℕ, ◌+◌, ◌<◌, List, [], ◌∷
 use Rattle.std.proofs.lemmas.List.{at_drop_more}
 use Rattle.dt_meaning.specs.Statements.{Fault}
 use Rattle.dt_tree.specs.Steps.{then_do, each}
-use Rattle.dt_resolve.specs.declared.error.BuildError.{BuildError}
+use Rattle.dt_resolve.specs.declared.error.BuildErrorKind.{BuildErrorKind}
 use Rattle.dt_resolve.specs.BuildFault.{IsFault}
 use Rattle.dt_resolve.proofs.Faults.{fault-then, fault-same}
 
@@ -30,7 +30,7 @@ module _ {A B : Type 0} (f : A → Result B Fault) where
   pub so-far-all : (bs : List B) (all : List A) → IsSoFar bs [] all → each f all ≡ Ok bs
   so-far-all bs all so = so ∙ ap (λ xs. Ok xs) (append-nil bs)
 
-  pub so-far-stops : (bs : List B) (x : A) (xs all : List A) (e : BuildError) → IsSoFar bs (x ∷ xs) all → IsFault e (f x) → IsFault e (each f all)
+  pub so-far-stops : (bs : List B) (x : A) (xs all : List A) (e : BuildErrorKind) → IsSoFar bs (x ∷ xs) all → IsFault e (f x) → IsFault e (each f all)
   so-far-stops bs x xs all e so fault =
       fault-same e (then_do (each f (x ∷ xs)) (λ cs. Ok (bs ++ cs))) (each f all) so
       (fault-then e (each f (x ∷ xs)) (λ cs. Ok (bs ++ cs)) (fault-then e (f x) (λ c. then_do (each f xs) (λ cs. Ok (c ∷ cs))) fault))

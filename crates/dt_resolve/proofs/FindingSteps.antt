@@ -12,10 +12,10 @@ use Rattle.dt_meaning.specs.References.{Found, Bytes, Open, PathText, cell_at, c
 use Rattle.dt_meaning.specs.Phandles.{cell_path}
 use Rattle.dt_live.specs.declared.live_tree.LiveTree.{LiveTree}
 use Rattle.dt_live.specs.Rows.{node_path}
-use Rattle.dt_edit.specs.declared.error.EditError.{EditError}
+use Rattle.dt_edit.specs.declared.error.EditErrorKind.{EditErrorKind}
 use Rattle.dt_edit.specs.EditFault as edit
 use Rattle.dt_edit.specs.Said.{Parts}
-use Rattle.dt_resolve.specs.declared.error.BuildError.{BuildError}
+use Rattle.dt_resolve.specs.declared.error.BuildErrorKind.{BuildErrorKind}
 use Rattle.dt_resolve.specs.declared.references.Targets.{Targets}
 use Rattle.dt_resolve.specs.BuildFault.{IsFault, build_error}
 use Rattle.dt_resolve.specs.Targets.{target_path, AreFound}
@@ -37,7 +37,7 @@ module _ (plugin : Bool) (s : State (List Piece)) (t : Target) where
   pub text-found : (p : Path) → found t s ≡ Ok p → found_in plugin s (PathOf t) ≡ Ok (PathText p)
   text-found p at = ap (λ r. then_do r (λ q. Ok (PathText q))) at
 
-  pub text-fault : (a : EditError) → edit.IsFault a (found t s) → IsFault (build_error a) (found_in plugin s (PathOf t))
+  pub text-fault : (a : EditErrorKind) → edit.IsFault a (found t s) → IsFault (build_error a) (found_in plugin s (PathOf t))
   text-fault a fault = fault-then (build_error a) (found t s) (λ q. Ok (PathText q)) (edit-fault a (found t s) fault)
 
 module _ (plugin : Bool) (s : State (List Piece)) where
@@ -80,7 +80,7 @@ found-more d es p n fs mid new a b =
 pub value-found : (plugin : Bool) (s : State (List Piece)) (e : Definition (List Piece)) (fs : List Found) → each (found_in plugin s) e.value ≡ Ok fs → found_value plugin s e ≡ Ok (definition e.path e.name fs)
 value-found plugin s e fs at = ap (λ r. then_do r (λ v. Ok (definition e.path e.name v))) at
 
-pub value-fault : (plugin : Bool) (s : State (List Piece)) (e : Definition (List Piece)) (b : BuildError) → IsFault b (each (found_in plugin s) e.value) → IsFault b (found_value plugin s e)
+pub value-fault : (plugin : Bool) (s : State (List Piece)) (e : Definition (List Piece)) (b : BuildErrorKind) → IsFault b (each (found_in plugin s) e.value) → IsFault b (found_value plugin s e)
 value-fault plugin s e b fault = fault-then b (each (found_in plugin s) e.value) (λ v. Ok (definition e.path e.name v)) fault
 
 -- ---- so far

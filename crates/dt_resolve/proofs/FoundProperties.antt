@@ -24,7 +24,7 @@ none-is : (r : Result (List (Definition (List Found))) Fault) (es : List (Defini
 none-is r es none h = cc
 
 module _ (plugin : Bool) (s : State (List Piece)) (nodes : List NodeRow) where
-  property-is : (x : NodeProperty Parts) (e : Definition (List Found)) (ts : List (Option ℕ)) → e.path ≡ path_of nodes x.node → e.name ≡ x.name.now → founds_of (path_of nodes) x.value.now ts ≡ e.value → e ≡ found_property (path_of nodes) x ts
+  property-is : (x : NodeProperty Parts) (e : Definition (List Found)) (ts : List (Option ℕ)) → e.path ≡ path_of nodes x.node → e.name ≡ x.name.now → founds_of (path_of nodes) x.value.now.parts.items ts ≡ e.value → e ≡ found_property (path_of nodes) x ts
   property-is x e ts a b c =
       ap₂ (λ p n. definition p n e.value) a b ∙ ap (λ v. definition (path_of nodes x.node) x.name.now v) (sym c)
 
@@ -34,6 +34,6 @@ module _ (plugin : Bool) (s : State (List Piece)) (nodes : List NodeRow) where
   properties-found (x ∷ xs) es h ts at =
       let split = each-split (found_value plugin s (read_property nodes x)) (each (found_value plugin s) (map (read_property nodes) xs)) es h in
       let is = value-is (each (found_in plugin s) (pieces x.value)) (path_of nodes x.node) x.name.now split.0 split.2 in
-      let value = value-found plugin s (path_of nodes) x.value.now split.0.value ts (targets_in split.1) is.0 (at ∙ ap targets_in split.4) in
+      let value = value-found plugin s (path_of nodes) x.value.now.parts.items split.0.value ts (targets_in split.1) is.0 (at ∙ ap targets_in split.4) in
       split.4
-      ∙ ap₂ (λ e ds. e ∷ ds) (property-is x split.0 ts is.1 is.2 value.0) (properties-found xs split.1 split.3 (drop (all_uses x.value.now) ts) value.1)
+      ∙ ap₂ (λ e ds. e ∷ ds) (property-is x split.0 ts is.1 is.2 value.0) (properties-found xs split.1 split.3 (drop (all_uses x.value.now.parts.items) ts) value.1)

@@ -29,7 +29,7 @@ use Rattle.dt_edit.specs.declared.standing.Standing.{Standing}
 use Rattle.dt_edit.specs.Said.{Parts, read, read_definition, tree_of}
 use Rattle.dt_edit.specs.Standing.{IsStandingOf}
 use Rattle.dt_edit.proofs.Reading.{filter-read}
-use Rattle.dt_resolve.specs.declared.error.BuildError.{BuildError}
+use Rattle.dt_resolve.specs.declared.error.BuildErrorKind.{BuildErrorKind}
 use Rattle.dt_resolve.specs.declared.gathered.Gathering.{Gathering}
 use Rattle.dt_resolve.specs.declared.gathered.Numbered.{Numbered}
 use Rattle.dt_resolve.specs.declared.gathered.Rest.{Rest}
@@ -53,7 +53,7 @@ pub fixed-true : (plugin : Bool) (s : State (List Piece)) (es : List (Definition
 fixed-true true s es is found = ap (λ r. then_do r (λ ds. Ok (filter (λ e. not (asks_for_own e)) ds))) found
 fixed-true false s es is found = absurd (true≢false (sym is))
 
-pub fixed-fault : (plugin : Bool) (s : State (List Piece)) (e : BuildError) → plugin ≡ true → IsFault e (references true s) → IsFault e (fixed_up plugin s)
+pub fixed-fault : (plugin : Bool) (s : State (List Piece)) (e : BuildErrorKind) → plugin ≡ true → IsFault e (references true s) → IsFault e (fixed_up plugin s)
 fixed-fault true s e is fault = fault-then e (references true s) (λ ds. Ok (filter (λ x. not (asks_for_own x)) ds)) fault
 fixed-fault false s e is fault = absurd (true≢false (sym is))
 
@@ -72,7 +72,7 @@ anew-among d test up ts known there =
     (each-more (λ t. IsKnown d t × IsThere d t) (IsAmong test) ts (one-among d test up) (each-both (IsKnown d) (IsThere d) ts (each-of (IsKnown d) ts known) (each-of (IsThere d) ts there)))
 
 -- ---- faults
-fault-more : {A B C : Type 0} (e : BuildError) (r : Result A Fault) (f : A → Result B Fault) (k : A → B → Result C Fault) → IsFault e (then_do r f) → IsFault e (then_do r (λ a. then_do (f a) (k a)))
+fault-more : {A B C : Type 0} (e : BuildErrorKind) (r : Result A Fault) (f : A → Result B Fault) (k : A → B → Result C Fault) → IsFault e (then_do r f) → IsFault e (then_do r (λ a. then_do (f a) (k a)))
 fault-more e (Ok a) f k fault = fault-then e (f a) (k a) fault
 fault-more {A} {B} {C} e (Err x) f k fault = fault-then {A = B} {B = C} e (Err x) (λ _. Err x) fault
 
@@ -120,7 +120,7 @@ module _ (symbols plugin : Bool) (t : DtcTree) (s : Standing) (of : IsStandingOf
       ∙ ap (λ r. then_do r (λ es. then_do (given_by_both es []) (λ given. meaning.gathered symbols plugin t es given)))
       (ap (references plugin) of.tree ∙ counted-references t.fragments (tree_of d) plugin)
 
-  pub cells-fault : (e : BuildError) → IsFault e (then_do (references plugin (tree_of d)) (λ es. given_by_both es [])) → IsFault e (all_gathered symbols plugin t)
+  pub cells-fault : (e : BuildErrorKind) → IsFault e (then_do (references plugin (tree_of d)) (λ es. given_by_both es [])) → IsFault e (all_gathered symbols plugin t)
   cells-fault e fault =
       fault-same e _ (all_gathered symbols plugin t) start
       (fault-more e (references plugin (tree_of d)) (λ es. given_by_both es []) (λ es given. meaning.gathered symbols plugin t es given) fault)
@@ -170,7 +170,7 @@ module _ (symbols plugin : Bool) (t : DtcTree) (s : Standing) (of : IsStandingOf
         ∙ ap (λ r. then_do r (λ given. meaning.gathered symbols plugin t es given)) numbered.given
         ∙ ap (λ r. then_do r (λ fixed. Ok (meant fixed))) (ap (fixed_up plugin) rest-same ∙ counted-fixed t.fragments (tree_of new) plugin)
 
-    pub anew-fault : (e : BuildError) → IsFault e (fixed_up plugin (tree_of new)) → IsFault e (all_gathered symbols plugin t)
+    pub anew-fault : (e : BuildErrorKind) → IsFault e (fixed_up plugin (tree_of new)) → IsFault e (all_gathered symbols plugin t)
     anew-fault e fault = fault-same e _ (all_gathered symbols plugin t) all-is (fault-then e (fixed_up plugin (tree_of new)) (λ fixed. Ok (meant fixed)) fault)
 
     -- where nothing went, all is as it was found

@@ -21,7 +21,7 @@ use Rattle.dt_live.specs.declared.preorder.properties.NodeProperty.{NodeProperty
 use Rattle.dt_live.proofs.Each.{each-all, each-append, each-of}
 use Rattle.dt_live.proofs.StandingRows.{same-node}
 use Rattle.dt_edit.specs.Said.{Parts}
-use Rattle.dt_resolve.specs.declared.error.BuildError.{BuildError}
+use Rattle.dt_resolve.specs.declared.error.BuildErrorKind.{BuildErrorKind}
 use Rattle.dt_resolve.specs.declared.given_by_both.Numbers.{Numbers}
 use Rattle.dt_resolve.specs.declared.node_phandles.NodePhandle.{NodePhandle}
 use Rattle.dt_resolve.specs.BuildFault.{IsFault}
@@ -274,19 +274,19 @@ gives-one e xs r some is = ap₂ (λ b q. if b then then_do q (given_by_both [])
   itself (Ok ys) = refl
   itself (Err f) = refl
 
-module _ (d : LiveTree Parts) (items : List (NodeProperty Parts)) (i : ℕ) (x : NodeProperty Parts) (within : i < length items) (is : x ≡ get_or items i x) (ts us : List (Option ℕ)) (behind : us ≡ drop (all_uses x.value.now) ts)
+module _ (d : LiveTree Parts) (items : List (NodeProperty Parts)) (i : ℕ) (x : NodeProperty Parts) (within : i < length items) (is : x ≡ get_or items i x) (ts us : List (Option ℕ)) (behind : us ≡ drop (all_uses x.value.now.parts.items) ts)
     (xs : List PathPhandle) (whole : Result (List PathPhandle) Fault) (rest : given_all d (drop i items) ts xs ≡ whole) where
   at-item : given_all d (drop i items) ts xs ≡ then_do (given_more d x ts xs) (λ ys. given_all d (drop (i + 1) items) us ys)
   at-item =
       at_drop_more (λ (ys : List (NodeProperty Parts)). given_all d ys ts xs) items i x within
       ∙ ap (λ (y : NodeProperty Parts). given_all d (y ∷ drop (i + 1) items) ts xs) (sym is)
-      ∙ both-split (found_property (node_path d) x ts) (found_properties (node_path d) (drop (i + 1) items) (drop (all_uses x.value.now) ts)) xs
+      ∙ both-split (found_property (node_path d) x ts) (found_properties (node_path d) (drop (i + 1) items) (drop (all_uses x.value.now.parts.items) ts)) xs
       ∙ ap (λ vs. then_do (given_more d x ts xs) (λ ys. given_all d (drop (i + 1) items) vs ys)) (sym behind)
 
   pub both-goes-on : (ys : List PathPhandle) → given_more d x ts xs ≡ Ok ys → given_all d (drop (i + 1) items) us ys ≡ whole
   both-goes-on ys step = sym (ap (λ r. then_do r (λ zs. given_all d (drop (i + 1) items) us zs)) step) ∙ sym at-item ∙ rest
 
-  pub both-stops : (e : BuildError) → IsFault e (given_more d x ts xs) → IsFault e whole
+  pub both-stops : (e : BuildErrorKind) → IsFault e (given_more d x ts xs) → IsFault e whole
   both-stops e fault =
       fault-same e (then_do (given_more d x ts xs) (λ ys. given_all d (drop (i + 1) items) us ys)) whole (sym rest ∙ at-item)
       (fault-then e (given_more d x ts xs) (λ ys. given_all d (drop (i + 1) items) us ys) fault)

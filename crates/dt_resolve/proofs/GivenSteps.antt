@@ -6,7 +6,7 @@ use Rattle.dt_meaning.specs.Syntax.{Piece}
 use Rattle.dt_meaning.specs.Edits.{Definition}
 use Rattle.dt_meaning.specs.Statements.{Fault}
 use Rattle.dt_meaning.specs.Phandles.{PathPhandle, is_phandle, phandle_value, given_one, given_of}
-use Rattle.dt_resolve.specs.declared.error.BuildError.{BuildError}
+use Rattle.dt_resolve.specs.declared.error.BuildErrorKind.{BuildErrorKind}
 use Rattle.dt_resolve.specs.BuildFault.{IsFault}
 use Rattle.dt_resolve.proofs.Faults.{fault-then, fault-same}
 
@@ -34,7 +34,7 @@ module _ {A : Type 0} (read : A → Definition (List Piece)) (items : List A) (i
   pub given-goes-on : (ys : List PathPhandle) → given_of (read x ∷ []) xs ≡ Ok ys → given_of (map read (drop (i + 1) items)) ys ≡ whole
   given-goes-on ys step = sym (ap (λ r. then_do r (given_of (map read (drop (i + 1) items)))) step) ∙ sym at-item ∙ rest
 
-  pub given-stops : (e : BuildError) → IsFault e (given_of (read x ∷ []) xs) → IsFault e whole
+  pub given-stops : (e : BuildErrorKind) → IsFault e (given_of (read x ∷ []) xs) → IsFault e whole
   given-stops e fault =
       fault-same e (then_do (given_of (read x ∷ []) xs) (given_of (map read (drop (i + 1) items)))) whole (sym rest ∙ at-item)
       (fault-then e (given_of (read x ∷ []) xs) (given_of (map read (drop (i + 1) items))) fault)

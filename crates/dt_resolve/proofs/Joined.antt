@@ -12,7 +12,7 @@ use Rattle.dt_live.specs.declared.live_tree.LiveTree.{LiveTree}
 use Rattle.dt_live.specs.Index.{row_of}
 use Rattle.dt_live.specs.Rows.{IsLiveTree, IsNode, is_standing, node_path, path_of, state_of}
 use Rattle.dt_edit.specs.Said.{Parts, tree_of}
-use Rattle.dt_resolve.specs.declared.error.BuildError.{BuildError}
+use Rattle.dt_resolve.specs.declared.error.BuildErrorKind.{BuildErrorKind}
 use Rattle.dt_resolve.specs.declared.node_phandles.Given.{Given}
 use Rattle.dt_resolve.specs.declared.node_phandles.NodePhandle.{NodePhandle}
 use Rattle.dt_resolve.specs.declared.references.Targets.{Targets}
@@ -95,9 +95,9 @@ module _ (d : LiveTree Parts) (sound : IsLiveTree d) (given : Given) (up : AreSt
   }
 
 -- a fault of the references, where the phandles have none
-pub fault-behind : (e : BuildError) (r : Result (List PathPhandle) Fault) (q : Result (List (Definition (List Found))) Fault) (given : List PathPhandle) → r ≡ Ok given → IsFault e q → IsFault e (then_do r (λ _. q))
+pub fault-behind : (e : BuildErrorKind) (r : Result (List PathPhandle) Fault) (q : Result (List (Definition (List Found))) Fault) (given : List PathPhandle) → r ≡ Ok given → IsFault e q → IsFault e (then_do r (λ _. q))
 fault-behind e r q given is fault = fault-same e q (then_do r (λ _. q)) (ap (λ x. then_do x (λ _. q)) is) fault
 
 -- behind a name that is free
-pub free-fault : (e : BuildError) (b : Bool) (r : Result (List (Definition (List Found))) Fault) → b ≡ false → IsFault e r → IsFault e (if b then Err ReservedName else r)
+pub free-fault : (e : BuildErrorKind) (b : Bool) (r : Result (List (Definition (List Found))) Fault) → b ≡ false → IsFault e r → IsFault e (if b then Err ReservedName else r)
 free-fault e b r free fault = fault-same e r (if b then Err ReservedName else r) (ap (λ c. if c then Err ReservedName else r) free) fault

@@ -39,9 +39,9 @@ module _ (path : ℕ → Path) (test : ℕ → Bool) (L : Path → Bool) where
   Agrees x = test x.node ≡ L (path x.node)
 
   found-by : (x : NodeProperty Parts) (xs : List (NodeProperty Parts)) (ts : List (Option ℕ)) → (us : List (Option ℕ)) (es : List (Definition (List Found))) → found_properties path (filter (λ y. test y.node) xs) us ≡ es → (b : Bool)
-      → found_properties path (if b then x ∷ filter (λ y. test y.node) xs else filter (λ y. test y.node) xs) ((if b then part_targets x.value.now ts else []) ++ us) ≡ (if b then found_property path x ts ∷ es else es)
+      → found_properties path (if b then x ∷ filter (λ y. test y.node) xs else filter (λ y. test y.node) xs) ((if b then part_targets x.value.now.parts.items ts else []) ++ us) ≡ (if b then found_property path x ts ∷ es else es)
   found-by x xs ts us es rest true =
-      ap₂ (λ v k. definition (path x.node) x.name.now v ∷ found_properties path (filter (λ y. test y.node) xs) k) (founds-part path x.value.now ts us) (drop-part x.value.now ts us)
+      ap₂ (λ v k. definition (path x.node) x.name.now v ∷ found_properties path (filter (λ y. test y.node) xs) k) (founds-part path x.value.now.parts.items ts us) (drop-part x.value.now.parts.items ts us)
       ∙ ap (λ ds. found_property path x ts ∷ ds) rest
   found-by x xs ts us es rest false = rest
 
@@ -49,9 +49,9 @@ module _ (path : ℕ → Path) (test : ℕ → Bool) (L : Path → Bool) where
       → found_properties path (filter (λ x. test x.node) xs) (left_targets test xs ts) ≡ filter (λ e. L e.path) (found_properties path xs ts)
   left-founds [] agrees ts = refl
   left-founds (x ∷ xs) agrees ts =
-      let us = left_targets test xs (drop (all_uses x.value.now) ts) in
-      let es = filter (λ e. L e.path) (found_properties path xs (drop (all_uses x.value.now) ts)) in
-      found-by x xs ts us es (left-founds xs agrees.1 (drop (all_uses x.value.now) ts)) (test x.node)
+      let us = left_targets test xs (drop (all_uses x.value.now.parts.items) ts) in
+      let es = filter (λ e. L e.path) (found_properties path xs (drop (all_uses x.value.now.parts.items) ts)) in
+      found-by x xs ts us es (left-founds xs agrees.1 (drop (all_uses x.value.now.parts.items) ts)) (test x.node)
       ∙ ap (λ b. if b then found_property path x ts ∷ es else es) agrees.0
 
 -- ---- their targets
@@ -69,5 +69,5 @@ module _ (P : Option ℕ → Type 0) (none : P None) where
   pub each-target : (test : ℕ → Bool) (xs : List (NodeProperty Parts)) (ts : List (Option ℕ)) → All P ts → Each P (left_targets test xs ts)
   each-target test [] ts all = tt
   each-target test (x ∷ xs) ts all =
-      each-append P (if test x.node then part_targets x.value.now ts else []) (left_targets test xs (drop (all_uses x.value.now) ts)) (each-when P (test x.node) (part_targets x.value.now ts) (each-part x.value.now ts all))
-      (each-target test xs (drop (all_uses x.value.now) ts) (all-drop P (all_uses x.value.now) ts (drop (all_uses x.value.now) ts) refl all))
+      each-append P (if test x.node then part_targets x.value.now.parts.items ts else []) (left_targets test xs (drop (all_uses x.value.now.parts.items) ts)) (each-when P (test x.node) (part_targets x.value.now.parts.items ts) (each-part x.value.now.parts.items ts all))
+      (each-target test xs (drop (all_uses x.value.now.parts.items) ts) (all-drop P (all_uses x.value.now.parts.items) ts (drop (all_uses x.value.now.parts.items) ts) refl all))

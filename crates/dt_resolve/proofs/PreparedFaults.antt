@@ -8,7 +8,7 @@ use Rattle.dt_meaning.specs.Statements.{ReservedName}
 use Rattle.dt_meaning.specs.References.{in_order, references}
 use Rattle.dt_meaning.specs.Phandles.{given_of, assigned, wanted}
 use Rattle.dt_meaning.specs.Resolved.{names_taken, put_together, resolved, resolved_state, shallow}
-use Rattle.dt_resolve.specs.declared.error.BuildError.{BuildError}
+use Rattle.dt_resolve.specs.declared.error.BuildErrorKind.{BuildErrorKind}
 use Rattle.dt_resolve.specs.BuildFault.{IsFault}
 use Rattle.dt_resolve.proofs.Counted.{counted-resolved}
 use Rattle.dt_resolve.proofs.Faults.{fault-same, fault-second}
@@ -18,7 +18,7 @@ pub resolved-counted : (symbols plugin : Bool) (m : Meaning) (n : ℕ) (s : Stat
 resolved-counted symbols plugin m n s done is =
     ap (λ r. then_do r (resolved_state symbols m.plugin)) done ∙ ap (λ b. resolved_state symbols b (counted n s)) (sym is) ∙ counted-resolved n s symbols plugin
 
-pub references-stop : (e : BuildError) (symbols plugin : Bool) (m : Meaning) (n : ℕ) (s : State (List Piece)) → meaning.edited m ≡ Ok (counted n s) → plugin ≡ m.plugin
+pub references-stop : (e : BuildErrorKind) (symbols plugin : Bool) (m : Meaning) (n : ℕ) (s : State (List Piece)) → meaning.edited m ≡ Ok (counted n s) → plugin ≡ m.plugin
     → IsFault e (if names_taken symbols plugin s then Err ReservedName else then_do (given_of (in_order s) []) (λ _. references plugin s)) → IsFault e (resolved symbols m)
 references-stop e symbols plugin m n s done is fault =
     fault-same e (resolved_state symbols plugin s) (resolved symbols m) (resolved-counted symbols plugin m n s done is)

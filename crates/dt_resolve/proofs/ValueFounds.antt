@@ -92,8 +92,8 @@ module _ (plugin : Bool) (s : State (List Piece)) (path : ℕ → Path) where
 
   cell-found : (t : Reference) (f : Found) (ts : List (Option ℕ)) (rest : List (Option Path)) → cell_of plugin s (target_view t) ≡ Ok f → map (option_map path) ts ≡ target_path f ++ rest
       → IsFirst path (cell_for path t) f ts rest
-  cell-found (references.Label l) f ts rest h at = by_label (references.Label l) plugin (label_path l.now s.labels) f ts rest h at
-  cell-found (references.Path t) f ts rest h at = by_plugin t.now (references.Path t) plugin f ts rest h at
+  cell-found (references.Label i l) f ts rest h at = by_label (references.Label i l) plugin (label_path l.now s.labels) f ts rest h at
+  cell-found (references.Path i t) f ts rest h at = by_plugin t.now (references.Path i t) plugin f ts rest h at
 
   part-found : (x : Part) (f : Found) (ts : List (Option ℕ)) (rest : List (Option Path)) → found_in plugin s (part_view x) ≡ Ok f → map (option_map path) ts ≡ target_path f ++ rest
       → (found_of path x (get_or ts 0 None) ≡ f) × (map (option_map path) (drop (uses x) ts) ≡ rest)

@@ -1,9 +1,9 @@
 -- The numbers and names of the errors.
 use Rattle.std.specs.Prelude.{ℕ, List, codes}
-use Rattle.dt_resolve.specs.declared.error.BuildError.{BuildError}
-use Rattle.dt_resolve.specs.declared.error.BuildError.TheVariants.{NoMemory, UnknownLabel, DuplicateLabel, UnknownPath, BadPhandle, DuplicatePhandle, DuplicateInBody, PathInPlugin, ReservedName, TooDeep}
+use Rattle.dt_resolve.specs.declared.error.BuildErrorKind.{BuildErrorKind}
+use Rattle.dt_resolve.specs.declared.error.BuildErrorKind.TheVariants.{NoMemory, UnknownLabel, DuplicateLabel, UnknownPath, BadPhandle, DuplicatePhandle, DuplicateInBody, PathInPlugin, ReservedName, TooDeep}
 
-abbrev pub number_of : BuildError → ℕ
+abbrev pub number_of : BuildErrorKind → ℕ
 number_of NoMemory = 0
 number_of UnknownLabel = 20
 number_of DuplicateLabel = 21
@@ -15,7 +15,7 @@ number_of PathInPlugin = 26
 number_of ReservedName = 27
 number_of TooDeep = 28
 
-abbrev pub name_of : BuildError → List ℕ
+abbrev pub name_of : BuildErrorKind → List ℕ
 name_of NoMemory = codes "NoMemory"
 name_of UnknownLabel = codes "UnknownLabel"
 name_of DuplicateLabel = codes "DuplicateLabel"

@@ -1,13 +1,13 @@
--- What each error says of the meaning; want of memory says nothing of it.
+-- What each error says of the meaning; want of memory says nothing of it, and where an error stands isn't told of.
 use Rattle.std.specs.Prelude.{◌≡◌, Result, Err}
 use Rattle.dt_meaning.specs.Statements.{Fault}
 use Rattle.dt_meaning.specs.Statements as meaning
-use Rattle.dt_edit.specs.declared.error.EditError.{EditError}
-use Rattle.dt_edit.specs.declared.error.EditError.TheVariants as edits
-use Rattle.dt_resolve.specs.declared.error.BuildError.{BuildError}
-use Rattle.dt_resolve.specs.declared.error.BuildError.TheVariants.{NoMemory, UnknownLabel, DuplicateLabel, UnknownPath, BadPhandle, DuplicatePhandle, DuplicateInBody, PathInPlugin, ReservedName, TooDeep}
+use Rattle.dt_edit.specs.declared.error.EditErrorKind.{EditErrorKind}
+use Rattle.dt_edit.specs.declared.error.EditErrorKind.TheVariants as edits
+use Rattle.dt_resolve.specs.declared.error.BuildErrorKind.{BuildErrorKind}
+use Rattle.dt_resolve.specs.declared.error.BuildErrorKind.TheVariants.{NoMemory, UnknownLabel, DuplicateLabel, UnknownPath, BadPhandle, DuplicatePhandle, DuplicateInBody, PathInPlugin, ReservedName, TooDeep}
 
-abbrev pub IsFault : {A : Type 0} → BuildError → Result A Fault → Type 0
+abbrev pub IsFault : {A : Type 0} → BuildErrorKind → Result A Fault → Type 0
 IsFault NoMemory r = Unit {0}
 IsFault UnknownLabel r = r ≡ Err meaning.UnknownLabel
 IsFault DuplicateLabel r = r ≡ Err meaning.DuplicateLabel
@@ -20,7 +20,7 @@ IsFault ReservedName r = r ≡ Err meaning.ReservedName
 IsFault TooDeep r = r ≡ Err meaning.TooDeep
 
 -- an edit that is refused stops the build
-abbrev pub build_error : EditError → BuildError
+abbrev pub build_error : EditErrorKind → BuildErrorKind
 build_error edits.NoMemory = NoMemory
 build_error edits.UnknownLabel = UnknownLabel
 build_error edits.DuplicateLabel = DuplicateLabel

@@ -23,8 +23,8 @@ all_uses (x ∷ xs) = uses x + all_uses xs
 
 -- the label of a reference
 abbrev pub label_in : Reference → List ℕ
-label_in (references.Label l) = l.now
-label_in (references.Path p) = []
+label_in (references.Label at l) = l.now
+label_in (references.Path at p) = []
 
 -- a part with its target: the node n, or none
 abbrev pub cell_for : (ℕ → Path) → Reference → Option ℕ → Found
@@ -49,8 +49,8 @@ founds_of path (x ∷ xs) ts = found_of path x (slice_index_or ts 0 None) ∷ fo
 
 -- a property whose value's targets are the first of these, and properties in order
 abbrev pub found_property : (ℕ → Path) → NodeProperty Parts → List (Option ℕ) → Definition (List Found)
-found_property path x ts = definition (path x.node) x.name.now (founds_of path x.value.now ts)
+found_property path x ts = definition (path x.node) x.name.now (founds_of path x.value.now.parts.items ts)
 
 abbrev pub found_properties : (ℕ → Path) → List (NodeProperty Parts) → List (Option ℕ) → List (Definition (List Found))
 found_properties path [] ts = []
-found_properties path (x ∷ xs) ts = found_property path x ts ∷ found_properties path xs (drop (all_uses x.value.now) ts)
+found_properties path (x ∷ xs) ts = found_property path x ts ∷ found_properties path xs (drop (all_uses x.value.now.parts.items) ts)

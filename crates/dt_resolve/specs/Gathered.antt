@@ -76,4 +76,4 @@ pub record IsGathered (plugin : Bool) (t : DtcTree) (meant : meaning.Gathered) (
 abbrev pub Gathers : Bool → Bool → DtcTree → Result Gathered BuildError → Type 0
 Gathers symbols plugin t result = MatchResult result
     (λ x. (meant : meaning.Gathered) × (all_gathered symbols plugin t ≡ Ok meant) × IsGathered plugin t meant x)
-    (λ e. IsFault e (all_gathered symbols plugin t))
+    (λ e. IsFault e.kind (all_gathered symbols plugin t))

@@ -36,4 +36,4 @@ pub record IsPrepared (symbols : Bool) (m : Meaning) (es : List (Definition (Lis
 -- a call prepares a source, or has the meaning's fault
 abbrev pub Prepares : {A : Type 0} → Bool → Meaning → (A → Prepared) → Result A BuildError → Type 0
 Prepares symbols m whole result =
-    MatchResult result (λ a. (es : List (Definition (List Found))) × IsPrepared symbols m es (whole a)) (λ e. IsFault e (resolved symbols m))
+    MatchResult result (λ a. (es : List (Definition (List Found))) × IsPrepared symbols m es (whole a)) (λ e. IsFault e.kind (resolved symbols m))

@@ -9,11 +9,11 @@ ghost use Rattle.dt_resolve.specs.Private.CellOf.{is_cell_of};
 use crate::given_by_both::is_phandle_name;
 use crate::parts::target_at;
 use dt_live::{LiveTree, NodeProperty, is_reserved};
-use dt_source::Part;
+use dt_source::{Part, Value};
 
 // Whether a value is one reference in cells to a node.
 fn refers_to<'d, 't>(
-    live: &LiveTree<'d, &'d [Part<'t>]>,
+    live: &LiveTree<'d, &'d Value<'t>>,
     node: usize,
     value: &'d [Part<'t>],
     targets: &[Option<usize>],
@@ -37,8 +37,8 @@ fn refers_to<'d, 't>(
 /// Whether a property in dtc's language asks for the number of its own node: a `phandle` or `linux,phandle` outside the reserved nodes
 /// whose value is one reference in cells to the node. The targets are those of its value (Devicetree Specification v0.4, section 2.3.3).
 pub fn asks_for_own<'d, 't>(
-    live: &LiveTree<'d, &'d [Part<'t>]>,
-    property: &NodeProperty<'d, &'d [Part<'t>]>,
+    live: &LiveTree<'d, &'d Value<'t>>,
+    property: &NodeProperty<'d, &'d Value<'t>>,
     targets: &[Option<usize>],
 ) -> bool
     requires sound { IsLiveTree live.now }
@@ -52,5 +52,10 @@ pub fn asks_for_own<'d, 't>(
     if is_reserved(live.nodes(), property.node) {
         return false;
     }
-    refers_to(live, property.node, property.value, targets)
+    refers_to(
+        live,
+        property.node,
+        property.value.parts.as_slice(),
+        targets,
+    )
 }

@@ -2,13 +2,13 @@
 ghost use Rattle.std.specs.Prelude.{◌≡◌};
 ghost use Rattle.dt_resolve.specs.BuildError.{name_of, number_of};
 
-use dt_edit::EditError;
+use dt_edit::{EditError, EditErrorKind};
 use std::alloc::{AllocError, AllocFailed};
 use thiserror::Error;
 
-/// Why a source makes no tree.
+/// What is wrong with a source that makes no tree.
 #[derive(Debug, Clone, Copy, PartialEq, Eq, Drop, Error)]
-pub enum BuildError {
+pub enum BuildErrorKind {
     #[error("out of memory")]
     NoMemory,
     #[error("no node has this label")]
@@ -31,25 +31,40 @@ pub enum BuildError {
     TooDeep,
 }
 
+/// Why a source makes no tree, and where in its text.
+#[derive(Debug, Clone, Copy, PartialEq, Eq, Drop, Error)]
+#[error("{kind}")]
+pub struct BuildError {
+    pub kind: BuildErrorKind,
+    /// where the name or the reference begins that is at fault, in bytes; of no meaning for want of memory
+    pub at: u32,
+}
+
 impl From<AllocError> for BuildError {
     ghost use Rattle.std.specs.Prelude.{◌≡◌};
-    ghost use Rattle.dt_resolve.specs.declared.error.BuildError.TheVariants.{NoMemory};
+    ghost use Rattle.dt_resolve.specs.declared.error.BuildErrorKind.TheVariants.{NoMemory};
 
-    ghost from_gives = { λ _ e. e ≡ NoMemory };
+    ghost from_gives = { λ _ e. e.kind ≡ NoMemory };
 
     fn from(_e: AllocError) -> BuildError {
-        BuildError::NoMemory
+        BuildError {
+            kind: BuildErrorKind::NoMemory,
+            at: 0,
+        }
     }
 }
 
 impl<T: Drop> From<AllocFailed<T>> for BuildError {
     ghost use Rattle.std.specs.Prelude.{◌≡◌};
-    ghost use Rattle.dt_resolve.specs.declared.error.BuildError.TheVariants.{NoMemory};
+    ghost use Rattle.dt_resolve.specs.declared.error.BuildErrorKind.TheVariants.{NoMemory};
 
-    ghost from_gives = { λ _ e. e ≡ NoMemory };
+    ghost from_gives = { λ _ e. e.kind ≡ NoMemory };
 
     fn from(_e: AllocFailed<T>) -> BuildError {
-        BuildError::NoMemory
+        BuildError {
+            kind: BuildErrorKind::NoMemory,
+            at: 0,
+        }
     }
 }
 
@@ -57,37 +72,38 @@ impl From<EditError> for BuildError {
     ghost use Rattle.std.specs.Prelude.{◌≡◌};
     ghost use Rattle.dt_resolve.specs.BuildFault.{build_error};
 
-    ghost from_gives = { λ a e. e ≡ build_error a };
+    ghost from_gives = { λ a e. e.kind ≡ build_error a.kind };
 
     fn from(e: EditError) -> BuildError {
-        match e {
-            EditError::NoMemory => BuildError::NoMemory,
-            EditError::UnknownLabel => BuildError::UnknownLabel,
-            EditError::DuplicateLabel => BuildError::DuplicateLabel,
-            EditError::UnknownPath => BuildError::UnknownPath,
-            EditError::DuplicateInBody => BuildError::DuplicateInBody,
-            EditError::ReservedName => BuildError::ReservedName,
-            EditError::TooDeep => BuildError::TooDeep,
-        }
+        let kind = match e.kind {
+            EditErrorKind::NoMemory => BuildErrorKind::NoMemory,
+            EditErrorKind::UnknownLabel => BuildErrorKind::UnknownLabel,
+            EditErrorKind::DuplicateLabel => BuildErrorKind::DuplicateLabel,
+            EditErrorKind::UnknownPath => BuildErrorKind::UnknownPath,
+            EditErrorKind::DuplicateInBody => BuildErrorKind::DuplicateInBody,
+            EditErrorKind::ReservedName => BuildErrorKind::ReservedName,
+            EditErrorKind::TooDeep => BuildErrorKind::TooDeep,
+        };
+        BuildError { kind, at: e.at }
     }
 }
 
-impl BuildError {
+impl BuildErrorKind {
     /// The number of the error, 0 for want of memory.
     pub fn number(&self) -> u8
         ensures { result ≡ number_of self.now }
     {
         match self {
-            BuildError::NoMemory => 0,
-            BuildError::UnknownLabel => 20,
-            BuildError::DuplicateLabel => 21,
-            BuildError::UnknownPath => 22,
-            BuildError::BadPhandle => 23,
-            BuildError::DuplicatePhandle => 24,
-            BuildError::DuplicateInBody => 25,
-            BuildError::PathInPlugin => 26,
-            BuildError::ReservedName => 27,
-            BuildError::TooDeep => 28,
+            BuildErrorKind::NoMemory => 0,
+            BuildErrorKind::UnknownLabel => 20,
+            BuildErrorKind::DuplicateLabel => 21,
+            BuildErrorKind::UnknownPath => 22,
+            BuildErrorKind::BadPhandle => 23,
+            BuildErrorKind::DuplicatePhandle => 24,
+            BuildErrorKind::DuplicateInBody => 25,
+            BuildErrorKind::PathInPlugin => 26,
+            BuildErrorKind::ReservedName => 27,
+            BuildErrorKind::TooDeep => 28,
         }
     }
 
@@ -96,16 +112,32 @@ impl BuildError {
         ensures { result.now ≡ name_of self.now }
     {
         match self {
-            BuildError::NoMemory => "NoMemory",
-            BuildError::UnknownLabel => "UnknownLabel",
-            BuildError::DuplicateLabel => "DuplicateLabel",
-            BuildError::UnknownPath => "UnknownPath",
-            BuildError::BadPhandle => "BadPhandle",
-            BuildError::DuplicatePhandle => "DuplicatePhandle",
-            BuildError::DuplicateInBody => "DuplicateInBody",
-            BuildError::PathInPlugin => "PathInPlugin",
-            BuildError::ReservedName => "ReservedName",
-            BuildError::TooDeep => "TooDeep",
+            BuildErrorKind::NoMemory => "NoMemory",
+            BuildErrorKind::UnknownLabel => "UnknownLabel",
+            BuildErrorKind::DuplicateLabel => "DuplicateLabel",
+            BuildErrorKind::UnknownPath => "UnknownPath",
+            BuildErrorKind::BadPhandle => "BadPhandle",
+            BuildErrorKind::DuplicatePhandle => "DuplicatePhandle",
+            BuildErrorKind::DuplicateInBody => "DuplicateInBody",
+            BuildErrorKind::PathInPlugin => "PathInPlugin",
+            BuildErrorKind::ReservedName => "ReservedName",
+            BuildErrorKind::TooDeep => "TooDeep",
         }
+    }
+}
+
+impl BuildError {
+    /// The number of the error, 0 for want of memory.
+    pub fn number(&self) -> u8
+        ensures { result ≡ number_of self.now.kind }
+    {
+        self.kind.number()
+    }
+
+    /// The name of the error, as its variant is written.
+    pub fn name(&self) -> &'static str
+        ensures { result.now ≡ name_of self.now.kind }
+    {
+        self.kind.name()
     }
 }

@@ -8,27 +8,27 @@ ghost use Rattle.dt_resolve.specs.Gathered.{Gathers};
 ghost use Rattle.dt_resolve.specs.Private.Gathering.{AreAllNumbers, Extends, FindsAnew, GathersIn, IsInOrder, IsWithout, NumbersCells};
 ghost use Rattle.dt_resolve.specs.Private.Gone.{IsThereIn, is_marked};
 
-use crate::error::BuildError;
+use crate::error::{BuildError, BuildErrorKind};
 use crate::given_by_both::given_by_both;
 use crate::gone::gone_nodes;
 use crate::labelled::marked_nodes;
 use crate::leaving::{left_nodes, left_properties, remove_nodes};
-use crate::names::is_name_taken;
+use crate::names::name_taken;
 use crate::node_phandles::NodePhandle;
 use crate::references::find_targets;
 use crate::symbol_numbers::numbers_of_symbols;
 use crate::wanted::number_nodes;
 use dt_edit::Standing;
 use dt_live::{LiveTree, Preorder, preorder_of};
-use dt_source::Part;
+use dt_source::Value;
 use std::alloc::{AllocError, Global};
 
 /// What a tree in dtc's language is made of.
 #[derive(Drop)]
 pub struct Gathered<'d, 't> {
     /// what is left of the tree that stood
-    pub live: LiveTree<'d, &'d [Part<'t>]>,
-    pub in_preorder: Preorder<'d, &'d [Part<'t>]>,
+    pub live: LiveTree<'d, &'d Value<'t>>,
+    pub in_preorder: Preorder<'d, &'d Value<'t>>,
     /// the targets of its references, also those that went
     pub targets: Vec<Option<usize>>,
     /// the targets found anew, where nodes of a plugin went
@@ -44,7 +44,7 @@ pub struct Gathered<'d, 't> {
 /// A tree in preorder, and the targets of its references.
 #[derive(Drop)]
 pub(crate) struct Rest<'d, 't> {
-    pub(crate) in_preorder: Preorder<'d, &'d [Part<'t>]>,
+    pub(crate) in_preorder: Preorder<'d, &'d Value<'t>>,
     pub(crate) targets: Vec<Option<usize>>,
 }
 
@@ -69,7 +69,7 @@ pub(crate) struct Gathering<'d, 't> {
 // Finds the references of a tree, and numbers the nodes that they name in cells.
 fn number_cells<'d, 't>(
     alloc: Global,
-    live: &LiveTree<'d, &'d [Part<'t>]>,
+    live: &LiveTree<'d, &'d Value<'t>>,
     plugin: bool,
 ) -> Result<Numbered<'d, 't>, BuildError>
     requires sound { IsLiveTree live.now }
@@ -99,7 +99,7 @@ fn number_cells<'d, 't>(
 // Removes the nodes that go. Where none goes, nothing is made anew.
 fn leave<'d, 't>(
     alloc: Global,
-    live: &mut LiveTree<'d, &'d [Part<'t>]>,
+    live: &mut LiveTree<'d, &'d Value<'t>>,
     rest: &mut Rest<'d, 't>,
     gone: &[usize],
 ) -> Result<(), AllocError>
@@ -133,7 +133,7 @@ fn leave<'d, 't>(
 // In a plugin from which nodes went, the targets of what is left.
 fn find_anew<'d, 't>(
     alloc: Global,
-    live: &LiveTree<'d, &'d [Part<'t>]>,
+    live: &LiveTree<'d, &'d Value<'t>>,
     rest: &Rest<'d, 't>,
     plugin: bool,
     gone: &[usize],
@@ -157,7 +157,7 @@ fn find_anew<'d, 't>(
 // The numbers of cells, and with symbols those of the nodes that ever had a label.
 fn number_symbols<'d, 't>(
     alloc: Global,
-    live: &LiveTree<'d, &'d [Part<'t>]>,
+    live: &LiveTree<'d, &'d Value<'t>>,
     order: &[usize],
     labelled: &[bool],
     given: &[NodePhandle],
@@ -207,8 +207,9 @@ fn gather_in<'d, 't>(
     requires labelled { length standing.old.labelled.items ≡ length standing.old.live.nodes.items + 1 }
     ensures { (t : DtcTree) → IsStandingOf standing.old t → GathersIn symbols plugin t standing.new.live result }
 {
-    if is_name_taken(&standing.live, symbols, plugin) {
-        return Err(BuildError::ReservedName);
+    if let Some(at) = name_taken(&standing.live, symbols, plugin) {
+        let kind = BuildErrorKind::ReservedName;
+        return Err(BuildError { kind, at });
     }
     let mut numbered = match number_cells(alloc, &standing.live, plugin) {
         Ok(numbered) => numbered,

@@ -7,11 +7,11 @@ ghost use Rattle.dt_resolve.specs.Targets.{IsThere};
 ghost use Rattle.dt_resolve.specs.Private.GivenByBoth.{AreNumbers, GivesAll, GivesMore, GivesOne, IsNumber};
 ghost use Rattle.dt_resolve.specs.Private.Wanted.{HasTaken};
 
-use crate::error::BuildError;
+use crate::error::{BuildError, BuildErrorKind};
 use crate::node_phandles::{Given, NodePhandle, take};
 use crate::parts::{target_at, targets_behind};
 use dt_live::{LiveTree, NodeProperty, is_reserved};
-use dt_source::Part;
+use dt_source::{Part, Value};
 use dt_tree::phandle_in;
 use std::alloc::Global;
 use std::collections::BTreeSet;
@@ -31,43 +31,44 @@ pub(crate) fn is_phandle_name(name: &[u8]) -> bool
 
 // The number that a value gives to its node, none where it asks for one by a reference to the node itself.
 fn number_in<'d, 't>(
-    live: &LiveTree<'d, &'d [Part<'t>]>,
+    live: &LiveTree<'d, &'d Value<'t>>,
     node: usize,
     value: &[Part<'t>],
     targets: &[Option<usize>],
-) -> Result<Option<u32>, BuildError>
+) -> Result<Option<u32>, BuildErrorKind>
     requires sound { IsLiveTree live.now }
     requires there { is_standing live.now node ≡ true }
     requires targets { All (IsThere live.now) targets.now }
     ensures { IsNumber live.now node value.now targets.now result }
 {
     if value.len() != 1 {
-        return Err(BuildError::BadPhandle);
+        return Err(BuildErrorKind::BadPhandle);
     }
     match (&value[0], target_at(targets, 0)) {
         (Part::Bytes(bytes), _) => match phandle_in(bytes.as_slice()) {
             Some(phandle) => Ok(Some(phandle)),
-            None => Err(BuildError::BadPhandle),
+            None => Err(BuildErrorKind::BadPhandle),
         },
         (Part::Phandle(_), Some(target)) => {
             if target == node {
                 Ok(None)
             } else {
-                Err(BuildError::BadPhandle)
+                Err(BuildErrorKind::BadPhandle)
             }
         }
-        (Part::Phandle(_), None) => Err(BuildError::BadPhandle),
-        (Part::Path(_), _) => Err(BuildError::BadPhandle),
-        (Part::File(_), _) => Err(BuildError::BadPhandle),
+        (Part::Phandle(_), None) => Err(BuildErrorKind::BadPhandle),
+        (Part::Path(_), _) => Err(BuildErrorKind::BadPhandle),
+        (Part::File(_), _) => Err(BuildErrorKind::BadPhandle),
     }
 }
 
 // Gives a number to a node that has none.
 fn give_first<'d, 't>(
     numbers: &mut Numbers,
-    live: &LiveTree<'d, &'d [Part<'t>]>,
+    live: &LiveTree<'d, &'d Value<'t>>,
     node: usize,
     phandle: u32,
+    at: u32,
 ) -> Result<(), BuildError>
     requires sound { IsLiveTree live.now }
     requires known { IsNode live.now node }
@@ -79,7 +80,8 @@ fn give_first<'d, 't>(
 {
     numbers.given.phandles.reserve(1)?;
     if !take(&mut numbers.given.taken, phandle)? {
-        return Err(BuildError::DuplicatePhandle);
+        let kind = BuildErrorKind::DuplicatePhandle;
+        return Err(BuildError { kind, at });
     }
     numbers.given.phandles.push(NodePhandle { node, phandle })?;
     numbers.of_nodes[node] = Some(phandle);
@@ -89,9 +91,10 @@ fn give_first<'d, 't>(
 // Gives a number to a node: no other node has it, and the node has no other.
 fn give<'d, 't>(
     numbers: &mut Numbers,
-    live: &LiveTree<'d, &'d [Part<'t>]>,
+    live: &LiveTree<'d, &'d Value<'t>>,
     node: usize,
     phandle: u32,
+    at: u32,
 ) -> Result<(), BuildError>
     requires sound { IsLiveTree live.now }
     requires known { IsNode live.now node }
@@ -101,15 +104,17 @@ fn give<'d, 't>(
     ensures step { GivesOne live.now node phandle numbers.old.given numbers.new.given result }
 {
     match numbers.of_nodes[node] {
-        None => give_first(numbers, live, node, phandle),
+        None => give_first(numbers, live, node, phandle, at),
         Some(own) => {
             if own == phandle {
                 return Ok(());
             }
             if numbers.given.taken.contains(&phandle) {
-                return Err(BuildError::DuplicatePhandle);
+                let kind = BuildErrorKind::DuplicatePhandle;
+                return Err(BuildError { kind, at });
             }
-            Err(BuildError::BadPhandle)
+            let kind = BuildErrorKind::BadPhandle;
+            Err(BuildError { kind, at })
         }
     }
 }
@@ -117,8 +122,8 @@ fn give<'d, 't>(
 // Notes what a property gives.
 fn note<'d, 't>(
     numbers: &mut Numbers,
-    live: &LiveTree<'d, &'d [Part<'t>]>,
-    property: &NodeProperty<'d, &'d [Part<'t>]>,
+    live: &LiveTree<'d, &'d Value<'t>>,
+    property: &NodeProperty<'d, &'d Value<'t>>,
     targets: &[Option<usize>],
 ) -> Result<(), BuildError>
     requires sound { IsLiveTree live.now }
@@ -135,18 +140,24 @@ fn note<'d, 't>(
     if is_reserved(live.nodes(), property.node) {
         return Ok(());
     }
-    match number_in(live, property.node, property.value, targets) {
-        Ok(Some(phandle)) => give(numbers, live, property.node, phandle),
+    let at = property.value.at;
+    match number_in(
+        live,
+        property.node,
+        property.value.parts.as_slice(),
+        targets,
+    ) {
+        Ok(Some(phandle)) => give(numbers, live, property.node, phandle, at),
         Ok(None) => Ok(()),
-        Err(error) => Err(error),
+        Err(kind) => Err(BuildError { kind, at }),
     }
 }
 
 /// The phandles that the properties `phandle` and `linux,phandle` give outside the reserved nodes, in the order of the walk.
 pub(crate) fn given_by_both<'d, 't>(
     alloc: Global,
-    live: &LiveTree<'d, &'d [Part<'t>]>,
-    properties: &[NodeProperty<'d, &'d [Part<'t>]>],
+    live: &LiveTree<'d, &'d Value<'t>>,
+    properties: &[NodeProperty<'d, &'d Value<'t>>],
     targets: &[Option<usize>],
 ) -> Result<Given, BuildError>
     requires sound { IsLiveTree live.now }
@@ -169,7 +180,7 @@ pub(crate) fn given_by_both<'d, 't>(
         if let Err(error) = note(&mut numbers, live, property, left) {
             return Err(error);
         }
-        left = targets_behind(property.value, left);
+        left = targets_behind(property.value.parts.as_slice(), left);
     }
     Ok(numbers.given)
 }

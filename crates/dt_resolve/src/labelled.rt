@@ -7,7 +7,7 @@ ghost use Rattle.dt_resolve.specs.Private.Wanted.{labelled_rows, marked_rows, na
 ghost use Rattle.dt_resolve.specs.Private.Gone.{is_marked};
 
 use dt_live::{LabelRow, LiveTree, is_reserved};
-use dt_source::Part;
+use dt_source::Value;
 use std::alloc::{AllocError, Global};
 
 // Whether each node has got a label.
@@ -30,7 +30,7 @@ fn label_marks(
 /// The nodes of a list that are marked, without the reserved ones.
 pub(crate) fn marked_nodes<'d, 't>(
     alloc: Global,
-    live: &LiveTree<'d, &'d [Part<'t>]>,
+    live: &LiveTree<'d, &'d Value<'t>>,
     order: &[usize],
     marks: &[bool],
 ) -> Result<Vec<usize>, AllocError>
@@ -53,7 +53,7 @@ pub(crate) fn marked_nodes<'d, 't>(
 /// The nodes of a list that have labels, without the reserved ones.
 pub(crate) fn labelled_nodes<'d, 't>(
     alloc: Global,
-    live: &LiveTree<'d, &'d [Part<'t>]>,
+    live: &LiveTree<'d, &'d Value<'t>>,
     order: &[usize],
 ) -> Result<Vec<usize>, AllocError>
     requires sound { IsLiveTree live.now }
@@ -67,7 +67,7 @@ pub(crate) fn labelled_nodes<'d, 't>(
 /// The nodes that are named in cells, and with symbols the labelled ones behind them.
 pub(crate) fn named_nodes<'d, 't>(
     alloc: Global,
-    live: &LiveTree<'d, &'d [Part<'t>]>,
+    live: &LiveTree<'d, &'d Value<'t>>,
     order: &[usize],
     cells: &[usize],
     symbols: bool,

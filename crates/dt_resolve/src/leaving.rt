@@ -6,11 +6,11 @@ ghost use Rattle.dt_resolve.specs.Private.Gone.{IsThereIn, Leaves, part_targets,
 
 use crate::parts::{target_at, target_count, targets_behind};
 use dt_live::{LiveTree, NodeProperty};
-use dt_source::Part;
+use dt_source::{Part, Value};
 use std::alloc::{AllocError, Global};
 
 /// Removes nodes, each with all below it.
-pub(crate) fn remove_nodes<'d, 't>(live: &mut LiveTree<'d, &'d [Part<'t>]>, gone: &[usize])
+pub(crate) fn remove_nodes<'d, 't>(live: &mut LiveTree<'d, &'d Value<'t>>, gone: &[usize])
     requires sound { IsLiveTree live.old }
     requires gone { All (IsThereIn live.old) gone.now }
     ensures sound { IsLiveTree live.new }
@@ -26,7 +26,7 @@ pub(crate) fn remove_nodes<'d, 't>(live: &mut LiveTree<'d, &'d [Part<'t>]>, gone
 /// The nodes of a list that are left.
 pub(crate) fn left_nodes<'d, 't>(
     alloc: Global,
-    live: &LiveTree<'d, &'d [Part<'t>]>,
+    live: &LiveTree<'d, &'d Value<'t>>,
     nodes: &[usize],
 ) -> Result<Vec<usize>, AllocError>
     requires sound { IsLiveTree live.now }
@@ -45,7 +45,7 @@ pub(crate) fn left_nodes<'d, 't>(
 /// The properties that are left, and the targets of their values.
 #[derive(Drop)]
 pub(crate) struct LeftProperties<'d, 't> {
-    pub(crate) properties: Vec<NodeProperty<'d, &'d [Part<'t>]>>,
+    pub(crate) properties: Vec<NodeProperty<'d, &'d Value<'t>>>,
     pub(crate) targets: Vec<Option<usize>>,
 }
 
@@ -71,8 +71,8 @@ fn push_targets(
 /// The properties of a list whose nodes are left, and their targets.
 pub(crate) fn left_properties<'d, 't>(
     alloc: Global,
-    live: &LiveTree<'d, &'d [Part<'t>]>,
-    properties: &[NodeProperty<'d, &'d [Part<'t>]>],
+    live: &LiveTree<'d, &'d Value<'t>>,
+    properties: &[NodeProperty<'d, &'d Value<'t>>],
     targets: &[Option<usize>],
 ) -> Result<LeftProperties<'d, 't>, AllocError>
     requires sound { IsLiveTree live.now }
@@ -86,11 +86,12 @@ pub(crate) fn left_properties<'d, 't>(
     };
     let mut behind = targets;
     for property in properties {
+        let parts = property.value.parts.as_slice();
         if live.is_in_tree(property.node) {
             left.properties.push(*property)?;
-            push_targets(&mut left.targets, property.value, behind)?;
+            push_targets(&mut left.targets, parts, behind)?;
         }
-        behind = targets_behind(property.value, behind);
+        behind = targets_behind(parts, behind);
     }
     Ok(left)
 }

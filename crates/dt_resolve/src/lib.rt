@@ -22,7 +22,7 @@ mod symbol_numbers;
 mod wanted;
 
 pub use asking::asks_for_own;
-pub use error::BuildError;
+pub use error::{BuildError, BuildErrorKind};
 pub use gathered::{Gathered, gather};
 pub use laws::phandles_in_order;
 pub use node_phandles::{Given, NodePhandle};

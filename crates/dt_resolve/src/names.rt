@@ -1,43 +1,52 @@
 //! The names that are kept for what is added.
-ghost use Rattle.std.specs.Prelude.{◌≡◌};
-ghost use Rattle.dt_meaning.specs.Resolved as meaning;
-ghost use Rattle.dt_meaning.specs.Resolved.{names_taken};
+ghost use Rattle.std.specs.Prelude.{◌≡◌, is_some};
+ghost use Rattle.dt_meaning.specs.Resolved.{has_child, names_taken};
 ghost use Rattle.dt_live.specs.Rows.{IsLiveTree};
 ghost use Rattle.dt_edit.specs.Said.{tree_of};
 
-use dt_live::LiveTree;
-use dt_source::Part;
+use dt_live::{LiveTree, NodeRow};
+use dt_source::Value;
 
-// Whether the root has a child of this name.
-fn has_child<'d, 't>(live: &LiveTree<'d, &'d [Part<'t>]>, name: &'d [u8]) -> bool
-    requires { IsLiveTree live.now }
-    ensures { result ≡ meaning.has_child (tree_of live.now) name.now }
-{
-    match live.child(0, name) {
-        Some(_) => true,
-        None => false,
+// Where the definition stands that made a node.
+fn definition_at(nodes: &[NodeRow<'_>], node: usize) -> u32 {
+    match nodes.get(node.saturating_sub(1)) {
+        Some(row) => row.at,
+        None => 0,
     }
 }
 
-/// Whether the root has a child whose name is kept for what is added: symbols, and a plugin's fixups.
-pub(crate) fn is_name_taken<'d, 't>(
-    live: &LiveTree<'d, &'d [Part<'t>]>,
+// Where the root's child of this name is defined, if it has one.
+fn child_at<'d, 't>(live: &LiveTree<'d, &'d Value<'t>>, name: &'d [u8]) -> Option<u32>
+    requires { IsLiveTree live.now }
+    ensures { is_some result ≡ has_child (tree_of live.now) name.now }
+{
+    match live.child(0, name) {
+        Some(node) => Some(definition_at(live.nodes(), node)),
+        None => None,
+    }
+}
+
+/// Where the root's child is defined whose name is kept for what is added: symbols, and a plugin's fixups. None where it has none.
+pub(crate) fn name_taken<'d, 't>(
+    live: &LiveTree<'d, &'d Value<'t>>,
     symbols: bool,
     plugin: bool,
-) -> bool
+) -> Option<u32>
     requires { IsLiveTree live.now }
-    ensures { result ≡ names_taken symbols plugin (tree_of live.now) }
+    ensures { is_some result ≡ names_taken symbols plugin (tree_of live.now) }
 {
     if symbols {
-        if has_child(&*live, b"__symbols__".as_slice()) {
-            return true;
+        let taken = child_at(&*live, b"__symbols__".as_slice());
+        if taken.is_some() {
+            return taken;
         }
     }
     if !plugin {
-        return false;
+        return None;
     }
-    if has_child(live, b"__fixups__".as_slice()) {
-        return true;
+    let taken = child_at(live, b"__fixups__".as_slice());
+    if taken.is_some() {
+        return taken;
     }
-    has_child(live, b"__local_fixups__".as_slice())
+    child_at(live, b"__local_fixups__".as_slice())
 }

@@ -4,10 +4,10 @@ ghost use Rattle.dt_live.specs.Rows.{IsGrown, stands};
 ghost use Rattle.dt_resolve.specs.NodePhandles.{AreStanding};
 ghost use Rattle.dt_resolve.specs.Private.Wanted.{HasTaken, Notes, is_taken, phandles_of};
 
-use crate::error::BuildError;
+use crate::error::{BuildError, BuildErrorKind};
 use crate::phandle::phandle_value;
 use dt_live::{NodeProperty, NodeRow, is_reserved};
-use dt_source::Part;
+use dt_source::Value;
 use std::alloc::{AllocError, Global};
 use std::collections::BTreeSet;
 
@@ -36,7 +36,7 @@ pub(crate) fn take(taken: &mut BTreeSet<u32>, phandle: u32) -> Result<bool, Allo
 fn note<'d, 't>(
     given: &mut Given,
     nodes: &[NodeRow<'t>],
-    property: &NodeProperty<'d, &'d [Part<'t>]>,
+    property: &NodeProperty<'d, &'d Value<'t>>,
 ) -> Result<(), BuildError>
     requires grown { IsGrown nodes.now }
     requires known { property.now.node ≤ length nodes.now }
@@ -53,13 +53,18 @@ fn note<'d, 't>(
     if is_reserved(nodes, property.node) {
         return Ok(());
     }
-    let phandle = match phandle_value(property.value) {
+    let at = property.value.at;
+    let phandle = match phandle_value(property.value.parts.as_slice()) {
         Some(phandle) => phandle,
-        None => return Err(BuildError::BadPhandle),
+        None => {
+            let kind = BuildErrorKind::BadPhandle;
+            return Err(BuildError { kind, at });
+        }
     };
     given.phandles.reserve(1)?;
     if !take(&mut given.taken, phandle)? {
-        return Err(BuildError::DuplicatePhandle);
+        let kind = BuildErrorKind::DuplicatePhandle;
+        return Err(BuildError { kind, at });
     }
     given.phandles.push(NodePhandle {
         node: property.node,
@@ -72,7 +77,7 @@ fn note<'d, 't>(
 pub(crate) fn given_phandles<'d, 't>(
     alloc: Global,
     nodes: &[NodeRow<'t>],
-    properties: &[NodeProperty<'d, &'d [Part<'t>]>],
+    properties: &[NodeProperty<'d, &'d Value<'t>>],
 ) -> Result<Given, BuildError>
     requires grown { IsGrown nodes.now }
     requires known { All (λ x. x.node ≤ length nodes.now) properties.now }

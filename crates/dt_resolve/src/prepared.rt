@@ -11,7 +11,7 @@ use crate::error::BuildError;
 use crate::resolving::{Resolution, resolve};
 use dt_edit::{Fragments, edit_items};
 use dt_live::{LiveTree, Preorder, preorder_of};
-use dt_source::{Part, Source};
+use dt_source::{Source, Value};
 use std::alloc::Global;
 use std::hash::RandomState;
 
@@ -19,18 +19,18 @@ use std::hash::RandomState;
 #[derive(Drop)]
 pub struct Prepared<'d, 't> {
     pub plugin: bool,
-    pub live: LiveTree<'d, &'d [Part<'t>]>,
-    pub in_preorder: Preorder<'d, &'d [Part<'t>]>,
+    pub live: LiveTree<'d, &'d Value<'t>>,
+    pub in_preorder: Preorder<'d, &'d Value<'t>>,
     pub resolution: Resolution,
 }
 
 // The order of the tree that edits made, and its phandles and targets.
 fn order_and_resolution<'d, 't>(
     alloc: Global,
-    live: &LiveTree<'d, &'d [Part<'t>]>,
+    live: &LiveTree<'d, &'d Value<'t>>,
     symbols: bool,
     plugin: bool,
-) -> Result<(Preorder<'d, &'d [Part<'t>]>, Resolution), BuildError>
+) -> Result<(Preorder<'d, &'d Value<'t>>, Resolution), BuildError>
     requires sound { IsLiveTree live.now }
     ensures { Completes symbols plugin live.now result }
 {
@@ -47,11 +47,11 @@ fn order_and_resolution<'d, 't>(
 // Does the edits of a source in an empty live tree, puts it into preorder, finds what is referenced and gives it phandles.
 fn fill<'d, 't>(
     alloc: Global,
-    live: &mut LiveTree<'d, &'d [Part<'t>]>,
+    live: &mut LiveTree<'d, &'d Value<'t>>,
     source: &'d Source<'t>,
     fragments: &'d Fragments<'t>,
     symbols: bool,
-) -> Result<(Preorder<'d, &'d [Part<'t>]>, Resolution), BuildError>
+) -> Result<(Preorder<'d, &'d Value<'t>>, Resolution), BuildError>
     requires sound { IsLiveTree live.old }
     requires assigned { IsStamped live.old }
     requires empty { state_of live.old ≡ empty }

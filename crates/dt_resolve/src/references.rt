@@ -7,10 +7,10 @@ ghost use Rattle.dt_source.specs.Tree.{target_view};
 ghost use Rattle.dt_resolve.specs.Targets.{IsKnown, IsThere};
 ghost use Rattle.dt_resolve.specs.Private.Targets.{AreTargets, FindsPart, FindsTargets, FindsValue, GivesCell};
 
-use crate::error::BuildError;
+use crate::error::{BuildError, BuildErrorKind};
 use dt_edit::target_of;
 use dt_live::{LiveTree, NodeProperty, is_reserved};
-use dt_source::{Part, Reference};
+use dt_source::{Part, Reference, Value};
 use std::alloc::Global;
 
 /// The nodes that references name, in the order of the walk, none where a plugin leaves a label to its base; and those among them
@@ -23,8 +23,9 @@ pub struct Targets {
 
 // A node in cells, unless it is reserved.
 fn cell_at<'d, 't>(
-    live: &LiveTree<'d, &'d [Part<'t>]>,
+    live: &LiveTree<'d, &'d Value<'t>>,
     node: usize,
+    at: u32,
 ) -> Result<Option<usize>, BuildError>
     requires sound { IsLiveTree live.now }
     requires known { IsNode live.now node }
@@ -34,14 +35,15 @@ fn cell_at<'d, 't>(
     ensures there { IfOk result (λ cell. IsThere live.now cell) }
 {
     if is_reserved(live.nodes(), node) {
-        return Err(BuildError::ReservedName);
+        let kind = BuildErrorKind::ReservedName;
+        return Err(BuildError { kind, at });
     }
     Ok(Some(node))
 }
 
 // The node that a reference in cells names; none where a plugin leaves a label to its base.
 fn cell_of<'d, 't>(
-    live: &LiveTree<'d, &'d [Part<'t>]>,
+    live: &LiveTree<'d, &'d Value<'t>>,
     target: &'d Reference<'t>,
     plugin: bool,
 ) -> Result<Option<usize>, BuildError>
@@ -51,24 +53,33 @@ fn cell_of<'d, 't>(
     ensures there { IfOk result (λ cell. IsThere live.now cell) }
 {
     match target {
-        Reference::Label(label) => {
+        Reference::Label { at, label } => {
             match live.labelled(*label) {
-                Some(node) => cell_at(live, node),
+                Some(node) => cell_at(live, node, *at),
                 None => {
                     if plugin {
                         return Ok(None);
                     }
-                    Err(BuildError::UnknownLabel)
+                    Err(BuildError {
+                        kind: BuildErrorKind::UnknownLabel,
+                        at: *at,
+                    })
                 }
             }
         }
-        Reference::Path(path) => {
+        Reference::Path { at, path } => {
             if plugin {
-                return Err(BuildError::PathInPlugin);
+                return Err(BuildError {
+                    kind: BuildErrorKind::PathInPlugin,
+                    at: *at,
+                });
             }
             match live.at_path(*path) {
-                Some(node) => cell_at(live, node),
-                None => Err(BuildError::UnknownPath),
+                Some(node) => cell_at(live, node, *at),
+                None => Err(BuildError {
+                    kind: BuildErrorKind::UnknownPath,
+                    at: *at,
+                }),
             }
         }
     }
@@ -76,7 +87,7 @@ fn cell_of<'d, 't>(
 
 fn find_part<'d, 't>(
     targets: &mut Targets,
-    live: &LiveTree<'d, &'d [Part<'t>]>,
+    live: &LiveTree<'d, &'d Value<'t>>,
     part: &'d Part<'t>,
     plugin: bool,
 ) -> Result<(), BuildError>
@@ -114,7 +125,7 @@ fn find_part<'d, 't>(
 
 fn find_value<'d, 't>(
     targets: &mut Targets,
-    live: &LiveTree<'d, &'d [Part<'t>]>,
+    live: &LiveTree<'d, &'d Value<'t>>,
     value: &'d [Part<'t>],
     plugin: bool,
 ) -> Result<(), BuildError>
@@ -134,8 +145,8 @@ fn find_value<'d, 't>(
 /// The targets of all references of a source.
 pub(crate) fn find_targets<'d, 't>(
     alloc: Global,
-    live: &LiveTree<'d, &'d [Part<'t>]>,
-    properties: &[NodeProperty<'d, &'d [Part<'t>]>],
+    live: &LiveTree<'d, &'d Value<'t>>,
+    properties: &[NodeProperty<'d, &'d Value<'t>>],
     plugin: bool,
 ) -> Result<Targets, BuildError>
     requires { IsLiveTree live.now }
@@ -147,7 +158,12 @@ pub(crate) fn find_targets<'d, 't>(
         cells: Vec::new(alloc),
     };
     for property in properties {
-        if let Err(error) = find_value(&mut targets, live, property.value, plugin) {
+        if let Err(error) = find_value(
+            &mut targets,
+            live,
+            property.value.parts.as_slice(),
+            plugin,
+        ) {
             return Err(error);
         }
     }

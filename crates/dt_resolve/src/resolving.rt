@@ -7,14 +7,14 @@ ghost use Rattle.dt_resolve.specs.NodePhandles.{AreStanding};
 ghost use Rattle.dt_resolve.specs.Private.Filled.{Resolves};
 ghost use Rattle.dt_resolve.specs.Private.Targets.{AreTargets};
 
-use crate::error::BuildError;
+use crate::error::{BuildError, BuildErrorKind};
 use crate::labelled::named_nodes;
-use crate::names::is_name_taken;
+use crate::names::name_taken;
 use crate::node_phandles::{Given, NodePhandle, given_phandles};
 use crate::references::{Targets, find_targets};
 use crate::wanted::number_nodes;
 use dt_live::{LiveTree, NodeProperty};
-use dt_source::Part;
+use dt_source::Value;
 use std::alloc::Global;
 
 /// The phandles that a source gives, the targets of its references, and the phandles that nodes get.
@@ -28,9 +28,9 @@ pub struct Resolution {
 /// Finds the references of a source, and gives phandles to the nodes that are named in cells and, with symbols, to the labelled ones.
 pub(crate) fn resolve<'d, 't>(
     alloc: Global,
-    live: &LiveTree<'d, &'d [Part<'t>]>,
+    live: &LiveTree<'d, &'d Value<'t>>,
     order: &[usize],
-    properties: &[NodeProperty<'d, &'d [Part<'t>]>],
+    properties: &[NodeProperty<'d, &'d Value<'t>>],
     symbols: bool,
     plugin: bool,
 ) -> Result<Resolution, BuildError>
@@ -46,8 +46,9 @@ pub(crate) fn resolve<'d, 't>(
     ensures new { IfOk result (λ all. AreStanding live.now.nodes.items all.new.items) }
     ensures resolved { Resolves symbols plugin live.now result }
 {
-    if is_name_taken(live, symbols, plugin) {
-        return Err(BuildError::ReservedName);
+    if let Some(at) = name_taken(live, symbols, plugin) {
+        let kind = BuildErrorKind::ReservedName;
+        return Err(BuildError { kind, at });
     }
     let given = match given_phandles(alloc, live.nodes(), properties) {
         Ok(given) => given,

@@ -8,14 +8,14 @@ ghost use Rattle.dt_resolve.specs.Private.Wanted.{HasTaken};
 use crate::node_phandles::{Given, NodePhandle, take};
 use crate::wanted::number_nodes;
 use dt_live::LiveTree;
-use dt_source::Part;
+use dt_source::Value;
 use std::alloc::{AllocError, Global};
 use std::collections::BTreeSet;
 
 // The phandles of a list whose nodes are left.
 fn left_phandles<'d, 't>(
     alloc: Global,
-    live: &LiveTree<'d, &'d [Part<'t>]>,
+    live: &LiveTree<'d, &'d Value<'t>>,
     phandles: &[NodePhandle],
 ) -> Result<Given, AllocError>
     requires sound { IsLiveTree live.now }
@@ -51,7 +51,7 @@ fn number_before_last(of_cells: &[NodePhandle]) -> u32
 /// again if its node went.
 pub(crate) fn numbers_of_symbols<'d, 't>(
     alloc: Global,
-    live: &LiveTree<'d, &'d [Part<'t>]>,
+    live: &LiveTree<'d, &'d Value<'t>>,
     given: &[NodePhandle],
     of_cells: &[NodePhandle],
     nodes: &[usize],

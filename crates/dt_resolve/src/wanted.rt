@@ -7,7 +7,7 @@ ghost use Rattle.dt_resolve.specs.Private.Wanted.{AreNumbered, HasTaken, free_af
 
 use crate::node_phandles::{Given, NodePhandle};
 use dt_live::LiveTree;
-use dt_source::Part;
+use dt_source::Value;
 use std::alloc::{AllocError, Global};
 use std::collections::BTreeSet;
 
@@ -92,7 +92,7 @@ fn assign_phandles(
 /// Gives each node of a list that has no phandle the next one above the last that isn't given, in their order.
 pub(crate) fn number_nodes<'d, 't>(
     alloc: Global,
-    live: &LiveTree<'d, &'d [Part<'t>]>,
+    live: &LiveTree<'d, &'d Value<'t>>,
     given: &Given,
     last: u32,
     nodes: &[usize],

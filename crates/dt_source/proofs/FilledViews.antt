@@ -1,5 +1,5 @@
 -- Bodies and items that are filled in, as they are seen.
-use Rattle.std.proofs.Common.{◌≡◌, List, map, Result, Ok, Err, ap, ◌∙◌, Vec, Global}
+use Rattle.std.proofs.Common.{◌≡◌, ℕ, List, map, Result, Ok, Err, ap, ◌∙◌, Vec, Global}
 use Rattle.dt_lexeme.specs.declared.lexeme.ReadError.{ReadError}
 use Rattle.dt_lexeme.specs.declared.lexeme.ReadError.TheVariants as errors
 use Rattle.dt_expression.specs.Reading.{◌>>=◌}
@@ -36,9 +36,9 @@ made_filled make v w fs gs (Ok u) e = ap (item_with make) e
 made_filled make v w fs gs (Err errors.NoMemory) e = tt
 made_filled make v w fs gs (Err (errors.Refused r)) e = ap (item_with make) e
 
-pub root_filled : (v w : Vec Statement Global) (fs gs : List Binary) (result : Result (Unit {0}) ReadError) → Gave result (views w.items) gs (filled_body (views v.items) fs)
-    → Gave result (item_view (items.Root w)) gs (filled_edit (item_view (items.Root v)) fs)
-root_filled v w fs gs result e = made_filled Rooted v.items w.items fs gs result e
+pub root_filled : (at : ℕ) (v w : Vec Statement Global) (fs gs : List Binary) (result : Result (Unit {0}) ReadError) → Gave result (views w.items) gs (filled_body (views v.items) fs)
+    → Gave result (item_view (items.Root at w)) gs (filled_edit (item_view (items.Root at v)) fs)
+root_filled at v w fs gs result e = made_filled Rooted v.items w.items fs gs result e
 
 pub extend_filled : (labels : Labels) (target : Reference) (v w : Vec Statement Global) (fs gs : List Binary) (result : Result (Unit {0}) ReadError) → Gave result (views w.items) gs (filled_body (views v.items) fs)
     → Gave result (item_view (items.Extend labels target w)) gs (filled_edit (item_view (items.Extend labels target v)) fs)

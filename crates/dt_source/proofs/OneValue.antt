@@ -6,7 +6,7 @@ use Rattle.dt_lexeme.specs.declared.lexeme.Kind.TheVariants.{Text, Reference, Sq
 use Rattle.dt_expression.specs.Expression.{Begins, SpellsPrimary}
 use Rattle.dt_source.specs.Sequences.{SpellsEach}
 use Rattle.dt_source.specs.Marks.{is_label}
-use Rattle.dt_source.specs.Source.{CellTree, PortionTree, Whole, Portion, PieceTree, Quoted, Points, Pairs, Cells, WideCells, Includes, One, SpellsLabels, SpellsCells, SpellsPortion, SpellsPiece, SpellsPlaced, SpellsFurther, SpellsValue}
+use Rattle.dt_source.specs.Source.{CellTree, PortionTree, Whole, Portion, PieceTree, Quoted, Points, Pairs, Cells, WideCells, Includes, SpellsLabels, SpellsCells, SpellsPortion, SpellsPiece, SpellsPlaced, SpellsFurther, SpellsValue}
 use Rattle.dt_expression.proofs.Trees.{spells_one}
 use Rattle.dt_source.proofs.Several.{each_can}
 use Rattle.dt_source.proofs.SpelledLabels.{NoLabel}

@@ -1,6 +1,6 @@
 -- What stands before a name in a body: labels (Devicetree Specification v0.4, section 6.2), and in dtc's language `/omit-if-no-ref/`
 -- (dtc 1.6, Documentation/dts-format.txt).
-use Rattle.std.specs.Prelude.{Bool, true, false, ◌||◌, List, [], ◌∷◌, if◌then◌else◌}
+use Rattle.std.specs.Prelude.{Bool, true, false, ◌||◌, List, [], ◌∷◌}
 use Rattle.std.specs.List.{filter}
 use Rattle.dt_lexeme.specs.declared.lexeme.Lexeme.{Lexeme}
 use Rattle.dt_lexeme.specs.declared.lexeme.Kind.{Kind}

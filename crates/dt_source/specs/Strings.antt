@@ -1,6 +1,6 @@
 -- Strings and byte strings: the bytes between the quotes, and pairs of hex digits
 -- (Devicetree Specification v0.4, section 6.3: strings with escapes as in C, bytestrings).
-use Rattle.std.specs.Prelude.{ℕ, zero, suc, ◌+◌, ◌-◌, ◌*◌, ◌%◌, List, [], ◌∷◌, ◌++◌, Option, Some, None, Ok, Err, nat_lt, ◌==◌, if◌then◌else◌, slice_range}
+use Rattle.std.specs.Prelude.{ℕ, zero, suc, ◌+◌, ◌-◌, ◌*◌, ◌%◌, List, [], ◌∷◌, ◌++◌, Option, Some, None, Ok, Err, ◌==◌, if◌then◌else◌, slice_range}
 use Rattle.dt_lexeme.specs.declared.language.Language.{Language}
 use Rattle.dt_lexeme.specs.declared.lexeme.Lexeme.{Lexeme}
 use Rattle.dt_lexeme.specs.declared.lexeme.Fault.{Fault}

@@ -4,6 +4,7 @@ ghost use Rattle.dt_expression.specs.Reading.{Gives};
 ghost use Rattle.dt_source.specs.Reading.Returned.{ReadsStatement, ReadsBody};
 ghost use Rattle.dt_source.specs.Tree.{view};
 ghost use Rattle.dt_source.specs.Marks.{omits};
+ghost use Rattle.dt_source.specs.Words.{name_bytes};
 ghost use Rattle.dt_source.specs.Reading.Bodies.{name_at, ended_by, bare_by, marked_by, nameless, begun_at};
 ghost use Rattle.dt_source.specs.Reading.Bodies.{statement_at, named_below, after, body_below, body_at};
 
@@ -12,7 +13,7 @@ use crate::pieces::value;
 use crate::reading::{Read, ReadBody, ReadStatement, semicolon};
 use crate::room::push_sparingly;
 use crate::string::earlier;
-use crate::tree::{Statement, delete_node, delete_property, node, property};
+use crate::tree::{PlacedName, Statement, delete_node, delete_property, node, property};
 use dt_expression::{bytes_of, syntax_at, too_deep};
 use dt_lexeme::{Fault, Kind, Language, Lexeme, ReadError, Refusal};
 use std::alloc::{AllocError, Global};
@@ -34,18 +35,28 @@ fn end<'a, 'text>(
     Ok(Read { found, fault, rest })
 }
 
+// The name that a lexeme is.
+fn name_of(text: &[u8], l: Lexeme) -> PlacedName<'_>
+    ensures { result.bytes.now ≡ name_bytes text.now l }
+{
+    PlacedName {
+        at: l.start,
+        bytes: bytes_of(text, l),
+    }
+}
+
 // A name, and what follows it.
 fn name<'a, 'text>(
     text: &'text [u8],
     ts: &'a [Lexeme],
-) -> Result<(&'text [u8], &'a [Lexeme]), Refusal>
-    ensures gives { Gives (λ x. (x.0.now, x.1.now)) result (name_at text.now ts.now) }
+) -> Result<(PlacedName<'text>, &'a [Lexeme]), Refusal>
+    ensures gives { Gives (λ x. (x.0.bytes.now, x.1.now)) result (name_at text.now ts.now) }
     ensures shorter { IfOk result (λ x. length x.1.now < length ts.now) }
 {
     match ts {
         [] => Err(syntax_at(ts)),
         [t, rest @ ..] => match t.kind {
-            Kind::Name => Ok((bytes_of(text, *t), rest)),
+            Kind::Name => Ok((name_of(text, *t), rest)),
             _ => Err(syntax_at(ts)),
         },
     }
@@ -112,7 +123,7 @@ fn begun<'a, 'text>(
                     depth,
                     closed(nodes, marks),
                     marks,
-                    bytes_of(text, *t),
+                    name_of(text, *t),
                     rest,
                 )
             }
@@ -188,10 +199,10 @@ fn named<'a, 'text>(
     depth: u8,
     nodes: bool,
     marks: &[Lexeme],
-    name: &'text [u8],
+    name: PlacedName<'text>,
     ts: &'a [Lexeme],
 ) -> ReadStatement<'a, 'text>
-    ensures gives { ReadsStatement result (named_below language text.now depth nodes marks.now name.now ts.now) }
+    ensures gives { ReadsStatement result (named_below language text.now depth nodes marks.now name.entry.bytes.now ts.now) }
     ensures shorter { IfOk result (λ x. length x.rest.now < length ts.now) }
 {
     match ts {

@@ -114,15 +114,16 @@ fn fill_statement(
     ensures { Reads (λ _. (view statement.new, into_iter_items binaries.new)) result (filled_entry (view statement.old) (into_iter_items binaries.old)) }
 {
     match statement {
-        Statement::Property { name: _, value } => fill_value(alloc, binaries, value),
+        Statement::Property { name: _, value } => fill_value(alloc, binaries, &mut value.parts),
         Statement::Node {
+            at: _,
             omit_if_no_ref: _,
             labels: _,
             name: _,
             body,
         } => fill_body(alloc, binaries, body),
-        Statement::DeleteProperty { name: _ } => Ok(()),
-        Statement::DeleteNode { name: _ } => Ok(()),
+        Statement::DeleteProperty { at: _, name: _ } => Ok(()),
+        Statement::DeleteNode { at: _, name: _ } => Ok(()),
     }
 }
 
@@ -160,7 +161,7 @@ fn fill_item(
     ensures { Reads (λ _. (item_view item.new, into_iter_items binaries.new)) result (filled_edit (item_view item.old) (into_iter_items binaries.old)) }
 {
     match item {
-        Item::Root(body) => fill_body(alloc, binaries, body),
+        Item::Root { at: _, body } => fill_body(alloc, binaries, body),
         Item::Extend {
             labels: _,
             target: _,

@@ -35,4 +35,4 @@ pub use order::faults_are_in_order;
 pub use parser::{MAX_TEXT_LEN as MAX_SOURCE_LEN, one_source, parse};
 pub use place::{Place, place_at};
 pub use spelling::reads_sources;
-pub use tree::{FilePart, Item, Part, Reference, Source, Statement};
+pub use tree::{FilePart, Item, Part, Reference, Source, Statement, Value};

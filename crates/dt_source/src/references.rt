@@ -14,12 +14,18 @@ pub(crate) fn target(text: &[u8], l: Lexeme) -> Reference<'_>
     ensures { target_view result ≡ target_of text.now l }
 {
     match l.kind {
-        Kind::PathReference => Reference::Path(path_of(bytes_between(
-            text,
-            l.start as usize + 2,
-            (l.end as usize).saturating_sub(1),
-        ))),
-        _ => Reference::Label(bytes_between(text, l.start as usize + 1, l.end as usize)),
+        Kind::PathReference => Reference::Path {
+            at: l.start,
+            path: path_of(bytes_between(
+                text,
+                l.start as usize + 2,
+                (l.end as usize).saturating_sub(1),
+            )),
+        },
+        _ => Reference::Label {
+            at: l.start,
+            label: bytes_between(text, l.start as usize + 1, l.end as usize),
+        },
     }
 }
 

@@ -271,7 +271,10 @@ fn bare<'a, 'text>(
     match t.kind {
         Kind::Slash => {
             let Read { found, fault, rest } = brace(alloc, language, text, rest)?;
-            let found = Some(Item::Root(found));
+            let found = Some(Item::Root {
+                at: t.start,
+                body: found,
+            });
             Ok(Read { found, fault, rest })
         }
         Kind::DeleteNode => {

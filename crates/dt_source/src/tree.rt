@@ -2,7 +2,7 @@
 ghost use Rattle.std.specs.Prelude.{◌≡◌, ◌≤◌, map, All};
 ghost use Rattle.dt_lexeme.specs.Limits.{text_limit};
 ghost use Rattle.dt_meaning.specs.Syntax.{Defines, Undefines, Child, Removes};
-ghost use Rattle.dt_source.specs.Tree.{labels_view, view, views, part_view, item_view};
+ghost use Rattle.dt_source.specs.Tree.{reference_at, labels_view, view, views, part_view, item_view};
 ghost use Rattle.dt_source.specs.Lawful.{IsLawfulEdit};
 ghost use Rattle.dt_source.specs.Counts.{how_many};
 ghost use Rattle.dt_source.specs.LawfulOnce.{edits_once};
@@ -15,8 +15,28 @@ use std::alloc::Global;
 /// What a reference names: a label, or the path of a node.
 #[derive(Drop)]
 pub enum Reference<'a> {
-    Label(&'a [u8]),
-    Path(&'a [u8]),
+    Label {
+        /// where its `&` stands in the text, in bytes
+        at: u32,
+        label: &'a [u8],
+    },
+    Path {
+        /// where its `&` stands in the text, in bytes
+        at: u32,
+        path: &'a [u8],
+    },
+}
+
+impl Reference<'_> {
+    /// Where its `&` stands in the text, in bytes.
+    pub fn at(&self) -> u32
+        ensures { result ≡ reference_at self.now }
+    {
+        match self {
+            Reference::Label { at, label: _ } => *at,
+            Reference::Path { at, path: _ } => *at,
+        }
+    }
 }
 
 /// A part of the file that an `/incbin/` names, which only dtc's language has.
@@ -43,17 +63,29 @@ pub enum Part<'a> {
     File(FilePart),
 }
 
+/// A property's value.
+#[derive(Drop)]
+pub struct Value<'a> {
+    /// where the property's name begins in the text, in bytes
+    pub at: u32,
+    pub parts: Vec<Part<'a>>,
+}
+
 /// One statement of a body, in the order of the text.
 #[derive(Drop)]
 pub enum Statement<'a> {
     Property {
         name: &'a [u8],
-        value: Vec<Part<'a>>,
+        value: Value<'a>,
     },
     DeleteProperty {
+        /// where the name begins in the text, in bytes
+        at: u32,
         name: &'a [u8],
     },
     Node {
+        /// where the name begins in the text, in bytes
+        at: u32,
         /// `/omit-if-no-ref/` stands before it, which only dtc's language has
         omit_if_no_ref: bool,
         labels: Labels<'a>,
@@ -61,6 +93,8 @@ pub enum Statement<'a> {
         body: Vec<Statement<'a>>,
     },
     DeleteNode {
+        /// where the name begins in the text, in bytes
+        at: u32,
         name: &'a [u8],
     },
 }
@@ -69,7 +103,11 @@ pub enum Statement<'a> {
 #[derive(Drop)]
 pub enum Item<'a> {
     /// `/ { .. };`
-    Root(Vec<Statement<'a>>),
+    Root {
+        /// where its slash stands in the text, in bytes
+        at: u32,
+        body: Vec<Statement<'a>>,
+    },
     /// `label: &target { .. };`
     Extend {
         labels: Labels<'a>,
@@ -140,27 +178,39 @@ pub struct Outline<'a> {
     pub items: Vec<Item<'a>>,
 }
 
-pub(crate) fn property<'a>(name: &'a [u8], value: Vec<Part<'a>>) -> Statement<'a>
-    ensures { view result ≡ Defines name.now (map part_view value.entry.items) }
+/// A name of the text, and where it begins, in bytes.
+#[derive(Clone, Copy)]
+pub struct PlacedName<'a> {
+    pub at: u32,
+    pub bytes: &'a [u8],
+}
+
+pub(crate) fn property<'a>(name: PlacedName<'a>, parts: Vec<Part<'a>>) -> Statement<'a>
+    ensures { view result ≡ Defines name.entry.bytes.now (map part_view parts.entry.items) }
 {
+    let PlacedName { at, bytes: name } = name;
+    let value = Value { at, parts };
     Statement::Property { name, value }
 }
 
-pub(crate) fn delete_property<'a>(name: &'a [u8]) -> Statement<'a>
-    ensures { view result ≡ Undefines name.now }
+pub(crate) fn delete_property<'a>(name: PlacedName<'a>) -> Statement<'a>
+    ensures { view result ≡ Undefines name.entry.bytes.now }
 {
-    Statement::DeleteProperty { name }
+    let PlacedName { at, bytes: name } = name;
+    Statement::DeleteProperty { at, name }
 }
 
 pub(crate) fn node<'a>(
     omit_if_no_ref: bool,
     labels: Labels<'a>,
-    name: &'a [u8],
+    name: PlacedName<'a>,
     body: Vec<Statement<'a>>,
 ) -> Statement<'a>
-    ensures { view result ≡ Child omit_if_no_ref (labels_view labels.entry) name.now (views body.entry.items) }
+    ensures { view result ≡ Child omit_if_no_ref (labels_view labels.entry) name.entry.bytes.now (views body.entry.items) }
 {
+    let PlacedName { at, bytes: name } = name;
     Statement::Node {
+        at,
         omit_if_no_ref,
         labels,
         name,
@@ -168,8 +218,9 @@ pub(crate) fn node<'a>(
     }
 }
 
-pub(crate) fn delete_node<'a>(name: &'a [u8]) -> Statement<'a>
-    ensures { view result ≡ Removes name.now }
+pub(crate) fn delete_node<'a>(name: PlacedName<'a>) -> Statement<'a>
+    ensures { view result ≡ Removes name.entry.bytes.now }
 {
-    Statement::DeleteNode { name }
+    let PlacedName { at, bytes: name } = name;
+    Statement::DeleteNode { at, name }
 }

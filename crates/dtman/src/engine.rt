@@ -1,10 +1,12 @@
 //! The engines as dtc's command line calls them.
 
 use dt_include::Binary;
-use dtman_diagnosis::{Refused, dtc_span};
-use dtman_dtc::{Compilation, Compiler, Fault, Texts, layout_bytes};
-use dtman_engine::{DtcOptions, compile_dtc_bytes, copy_bytes, overlay_bytes, sort_bytes};
-use std::alloc::Global;
+use dt_lexeme::Language;
+use dtman_cli::{Again, faults_behind, name_of};
+use dtman_diagnosis::{Found, Refused, dtc_span};
+use dtman_dtc::{Compilation, Compiled, Compiler, Fault, Texts, layout_bytes};
+use dtman_engine::{DtcOptions, compile_dtc, copy_bytes, overlay_bytes, sort_bytes};
+use std::alloc::{AllocError, Global};
 use std::hash::RandomState;
 
 /// The compiler.
@@ -19,7 +21,7 @@ impl Compiler for Engine {
         text: &[u8],
         binaries: Vec<Binary>,
         compilation: Compilation,
-    ) -> Result<Vec<u8>, Fault> {
+    ) -> Result<Compiled, Fault> {
         let Compilation {
             symbols,
             boot_processor,
@@ -28,13 +30,33 @@ impl Compiler for Engine {
             symbols,
             boot_processor,
         };
-        match compile_dtc_bytes(alloc, hasher, text, binaries, options) {
-            Ok(blob) => Ok(blob),
+        match compile_dtc(alloc, hasher, text, binaries, options) {
+            Ok(compiled) => Ok(handed(compiled)),
             Err(fault) => Err(Fault {
                 // Where there is no memory to find them, the line stands alone.
-                bytes: dtc_span(alloc, text, symbols, refused_by(&fault)).unwrap_or(None),
+                bytes: dtc_span(alloc, text, refused_by(&fault)).unwrap_or(None),
                 ..dtc_fault(fault)
             }),
+        }
+    }
+
+    fn further(
+        &mut self,
+        alloc: Global,
+        hasher: RandomState,
+        text: &[u8],
+        compilation: Compilation,
+        first: Fault,
+    ) -> Vec<Fault> {
+        // Where there is no memory to find them, the first stands alone.
+        let again = Again {
+            hasher,
+            language: Language::Dtc,
+            symbols: compilation.symbols,
+        };
+        match further_of(alloc, again, text, first) {
+            Ok(faults) => faults,
+            Err(_) => Vec::new(alloc),
         }
     }
 
@@ -62,6 +84,39 @@ impl Compiler for Engine {
     ) -> Result<Vec<u8>, Fault> {
         overlay_bytes(alloc, hasher, base, overlay).map_err(|fault| dtc_fault(fault))
     }
+}
+
+// What the compile made, as dtc's command line has it.
+fn handed(compiled: dtman_engine::Compiled) -> Compiled {
+    let dtman_engine::Compiled { blob, tree, places } = compiled;
+    Compiled { blob, tree, places }
+}
+
+// What else is refused of a text, behind the first fault.
+fn further_of(
+    alloc: Global,
+    again: Again,
+    text: &[u8],
+    first: Fault,
+) -> Result<Vec<Fault>, AllocError> {
+    let mut faults = Vec::new(alloc);
+    let Some(span) = first.bytes else {
+        return Ok(faults);
+    };
+    let refused = Refused {
+        number: first.number,
+        offset: None,
+    };
+    for found in &faults_behind(alloc, again, text, Found { refused, span })? {
+        let number = found.refused.number;
+        faults.push(Fault {
+            number,
+            name: name_of(number),
+            line: None,
+            bytes: Some(found.span),
+        })?;
+    }
+    Ok(faults)
 }
 
 // A fault as dtc's command line has it.

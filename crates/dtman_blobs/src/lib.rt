@@ -1,9 +1,10 @@
-//! What the commands `diff`, `get`, `set` and `ls` answer, from the bytes of blobs to text.
+//! What the commands `diff`, `get`, `set`, `ls` and `dump --labels` answer, from the bytes of blobs to text.
 #![tactic(auto)]
 
 mod asking;
 mod diff_text;
 mod diffing;
+mod labelled;
 mod order_lines;
 mod saying;
 mod showing;
@@ -12,6 +13,7 @@ mod value_type;
 
 pub use asking::{AskError, list_text, node_text, set_bytes, value_line};
 pub use diffing::{DiffError, Sameness, Titles, diff_bytes};
+pub use labelled::{Labels, labelled_text, labels_of};
 pub use saying::{SayError, said};
 pub use showing::{ShowError, are_texts, shown};
 pub use value_type::{Notation, ValueType, Width};

@@ -11,12 +11,20 @@ const HEAD: &[u8] = b"/dts-v1/;\n\n/ {\n\t";
 /// And what stands behind its line.
 const TAIL: &[u8] = b"};\n";
 
-fn add_front(text: &mut Vec<u8>, mark: u8, depth: usize) -> Result<(), AllocError> {
-    text.push(mark)?;
+/// A root without properties and children.
+const EMPTY_ROOT: &[u8] = b"/ {\n};\n";
+
+/// Adds the tabs before what is so deep.
+pub(crate) fn add_tabs(text: &mut Vec<u8>, depth: usize) -> Result<(), AllocError> {
     for _level in 0..depth {
         text.push(b'\t')?;
     }
     Ok(())
+}
+
+fn add_front(text: &mut Vec<u8>, mark: u8, depth: usize) -> Result<(), AllocError> {
+    text.push(mark)?;
+    add_tabs(text, depth)
 }
 
 // The property in the source of a tree that has it alone.
@@ -28,8 +36,22 @@ fn source_alone(alloc: Global, property: &Property) -> Result<Vec<u8>, BlobError
     source_text(alloc, &tree)
 }
 
-// The canonical line of a property, without tabs.
-fn add_canonical(alloc: Global, text: &mut Vec<u8>, property: &Property) -> Result<(), BlobError> {
+/// What stands before the root in the source of a tree with these reservations.
+pub(crate) fn head_of(alloc: Global, reserves: &[(u64, u64)]) -> Result<Vec<u8>, BlobError> {
+    let root = Node::new(alloc, None, Vec::new(alloc), Vec::new(alloc))?;
+    let tree = Tree::new(Vec::from_slice(alloc, reserves)?, 0, root)?;
+    let mut source = source_text(alloc, &tree)?;
+    let head = source.len().saturating_sub(EMPTY_ROOT.len());
+    source.truncate(head);
+    Ok(source)
+}
+
+/// The canonical line of a property, without tabs.
+pub(crate) fn add_canonical(
+    alloc: Global,
+    text: &mut Vec<u8>,
+    property: &Property,
+) -> Result<(), BlobError> {
     let source = source_alone(alloc, property)?;
     let source = source.as_slice();
     let line = source.strip_prefix(HEAD).unwrap_or(source);
@@ -38,7 +60,8 @@ fn add_canonical(alloc: Global, text: &mut Vec<u8>, property: &Property) -> Resu
     Ok(())
 }
 
-fn add_hex(alloc: Global, text: &mut Vec<u8>, bytes: &[u8]) -> Result<(), AllocError> {
+/// Adds bytes as one number.
+pub(crate) fn add_hex(alloc: Global, text: &mut Vec<u8>, bytes: &[u8]) -> Result<(), AllocError> {
     text.extend_from_slice(b"0x")?;
     for byte in bytes {
         let digits = format!(in alloc; "{byte:02x}")?;
@@ -50,13 +73,16 @@ fn add_hex(alloc: Global, text: &mut Vec<u8>, bytes: &[u8]) -> Result<(), AllocE
 fn add_part(alloc: Global, text: &mut Vec<u8>, part: Part<'_>) -> Result<(), AllocError> {
     match part {
         Part::Number(bytes) => add_hex(alloc, text, bytes),
-        Part::Node(path) => {
-            text.extend_from_slice(b"&{")?;
-            text.extend_from_slice(shown_path(path))?;
-            text.push(b'}')?;
-            Ok(())
-        }
+        Part::Node(path) => add_path(text, path),
     }
+}
+
+/// Adds a reference to the node at a path.
+pub(crate) fn add_path(text: &mut Vec<u8>, path: &[u8]) -> Result<(), AllocError> {
+    text.extend_from_slice(b"&{")?;
+    text.extend_from_slice(shown_path(path))?;
+    text.push(b'}')?;
+    Ok(())
 }
 
 /// The path of a node as sources have it.
@@ -83,8 +109,8 @@ fn add_cells(
     text.extend_from_slice(b">;\n")
 }
 
-// Whether a value is shown with the paths of nodes.
-fn has_cells(property: &Property) -> bool {
+/// Whether a value is shown with the paths of nodes.
+pub(crate) fn has_cells(property: &Property) -> bool {
     let value = property.value.as_slice();
     Form::of(property.name.as_bytes()).is_some() && !value.is_empty() && value.len() % 4 == 0
 }

@@ -15,6 +15,7 @@ use Rattle.dt_blob.specs.SourceText.{text_of}
 use Rattle.dtman_engine.specs.declared.fault.Fault.{Fault}
 use Rattle.dtman_engine.specs.Compile as compile
 use Rattle.dtman_engine.specs.CompileDtc as engine_dtc
+use Rattle.dtman_engine.specs.declared.compiling_dtc.Compiled.{Compiled}
 use Rattle.dtman_engine.specs.declared.compiling_dtc.DtcOptions.{DtcOptions}
 use Rattle.dtman_engine.specs.Fault as engine
 use Rattle.dtman_engine.specs.Dump as dump
@@ -107,19 +108,24 @@ replayed items (Ok v) plan_file schedule a h = record { answer = a; history = h 
 replayed items (Err fault) plan_file schedule a h = record { answer = a; history = h }
 
 -- ---- dtc's language
-pub answered_dtc : (options : DtcOptions) (source : List ℕ) (what : Result Meaning Refusal) (r : engine.Answer)
-    → engine_dtc.AnswersFilled options source what r → dtc.AnswersFilled options source what (dtc.shown r)
+-- the blob of what was compiled
+abbrev pub blob_in : Result Compiled Fault → engine.Answer
+blob_in (Ok made) = Ok made.blob
+blob_in (Err fault) = Err fault
+
+pub answered_dtc : (options : DtcOptions) (source : List ℕ) (what : Result Meaning Refusal) (r : Result Compiled Fault)
+    → engine_dtc.AnswersFilled options source what r → dtc.AnswersFilled options source what (dtc.shown (blob_in r))
 answered_dtc options source (Ok m) (Ok v) h = h
 answered_dtc options source (Ok m) (Err fault) h = h
 answered_dtc options source (Err refusal) (Ok v) h = h
 answered_dtc options source (Err refusal) (Err fault) h = h
 
-pub compiled_dtc : (options : DtcOptions) (source : List ℕ) (files : List IncludedFile) (binaries : List Binary) (r : engine.Answer)
+pub compiled_dtc : (options : DtcOptions) (source : List ℕ) (files : List IncludedFile) (binaries : List Binary) (r : Result Compiled Fault)
     → dtc.AreFiles files binaries
-    → IfOk r (λ blob. engine_dtc.IsDtcCompiled options source binaries blob.items)
+    → IfOk r (λ made. engine_dtc.IsDtcCompiled options source binaries made.blob.items)
     → ((m : Meaning) → IsShort source → Says Dtc source m → engine_dtc.AnswersFilled options source (filled binaries m) r)
     → IfErr r (λ fault. engine_dtc.IsDtcRefusal options source binaries (fault_value fault))
-    → dtc.IsDtcAnswer options source files (dtc.shown r)
+    → dtc.IsDtcAnswer options source files (dtc.shown (blob_in r))
 compiled_dtc options source files binaries (Ok v) are a s r =
     record { binaries = binaries; are_files = are; answer = a; said = λ m short says. answered_dtc options source (filled binaries m) (Ok v) (s m short says); refused = r }
 compiled_dtc options source files binaries (Err fault) are a s r =

@@ -1,4 +1,4 @@
--- The clauses of `compile_dtc_bytes`, over files and an answer as a caller sees them.
+-- The clauses of `compile_dtc`, over files and an answer as a caller sees them.
 use Rattle.std.specs.Prelude.{◌≡◌, ◌⊎◌, ℕ, List, map, if◌then◌else◌, Some, None, Result, Ok, Err, IfOk, IfErr, IsErrAnd, MatchResult}
 use Rattle.dt_lexeme.specs.declared.binary.Binary.{Binary}
 use Rattle.dt_lexeme.specs.declared.language.Language.TheVariants.{Dtc}
@@ -42,7 +42,7 @@ AnswersFilled options source (Ok m) result =
     MatchResult result (λ blob. meant.IsBlobOf (dtc_meant options m) blob) (λ fault. meant.CannotBuild (dtc_meant options m) fault)
 AnswersFilled options source (Err refusal) result = IsErrAnd result (λ fault. (fault ≡ no_memory) ⊎ (fault ≡ lacking source refusal))
 
--- what `compile_dtc_bytes` may answer
+-- what `compile_dtc` may answer
 pub record IsDtcAnswer (options : DtcOptions) (source : List ℕ) (files : List IncludedFile) (result : Result (List ℕ) FaultValue) : Type 0 where
   pub binaries : List Binary
   pub are_files : AreFiles files binaries

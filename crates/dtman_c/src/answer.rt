@@ -2,7 +2,7 @@
 ghost use Rattle.std.specs.Prelude.{◌≡◌, Ok, Err, MatchResult};
 ghost use Rattle.dtman_engine.specs.Fault.{fault_value};
 ghost use Rattle.dtman_c.specs.Boards.{occupied};
-ghost use Rattle.dtman_c.specs.Crossing.{Crosses, IsPut, refused, unnamed};
+ghost use Rattle.dtman_c.specs.Crossing.{Crosses, IsPut, IsRefused, is_said, refused, unnamed};
 
 use dtman_engine::{Fault, Position};
 
@@ -46,7 +46,7 @@ pub(crate) fn give(answer: Result<Vec<u8>, Fault>, out: &mut [u8]) -> Answer
 {
     match answer {
         Ok(bytes) => put(bytes.as_slice(), out),
-        Err(fault) => refusal(&fault),
+        Err(fault) => placed_refusal(&fault),
     }
 }
 
@@ -89,6 +89,27 @@ pub(crate) fn told(status: u32, length: usize) -> Answer
     }
 }
 
+// Whether a fault of this number is of what a source says.
+fn is_said(number: u8) -> bool
+    ensures { result ≡ is_said number }
+{
+    20 <= number && number <= 28
+}
+
+// A fault, with its place in what a source says.
+fn placed_refusal(fault: &Fault) -> Answer
+    ensures { IsRefused (fault_value fault.now) result }
+{
+    match fault.position {
+        Position::Within(place) if is_said(fault.number) => Answer {
+            line: place.line,
+            byte: place.offset as usize + 1,
+            ..refusal(fault)
+        },
+        _ => refusal(fault),
+    }
+}
+
 pub(crate) fn refusal(fault: &Fault) -> Answer
     ensures { result ≡ refused (fault_value fault.now) }
 {
@@ -97,7 +118,7 @@ pub(crate) fn refusal(fault: &Fault) -> Answer
         ..told(REFUSED, 0)
     };
     match fault.position {
-        Position::Nowhere => answer,
+        Position::Nowhere | Position::Within(_) => answer,
         Position::Line(line) => Answer { line, ..answer },
         Position::At(place) => Answer {
             line: place.line,

@@ -7,7 +7,7 @@ ghost use Rattle.dtman_c.specs.Dtc.{AreFiles, IsDtcAnswer, options_of, shown};
 use crate::answer::{Answer, give};
 use crate::seed::hasher_of;
 use dt_lexeme::Binary;
-use dtman_engine::{DtcOptions, Fault, compile_dtc_bytes};
+use dtman_engine::{DtcOptions, Fault, compile_dtc};
 use std::alloc::Global;
 
 /// The file that an `/incbin/` of a source names.
@@ -67,7 +67,10 @@ fn compiled(
 {
     let hasher = hasher_of(seed)?;
     let binaries = copied(alloc, files)?;
-    compile_dtc_bytes(alloc, hasher, source, binaries, options_of(choice))
+    match compile_dtc(alloc, hasher, source, binaries, options_of(choice)) {
+        Ok(compiled) => Ok(compiled.blob),
+        Err(fault) => Err(fault),
+    }
 }
 
 /// The blob of a source in dtc's language, with the files that its `/incbin/` name, in the order of the text.

@@ -1,26 +1,30 @@
 //! From a blob to the lines of its findings.
-ghost use Rattle.std.specs.Prelude.{◌≡◌, IfOk};
+ghost use Rattle.std.specs.Prelude.{◌≡◌, ◌==◌, false, IfOk};
+ghost use Rattle.std.specs.Option.{option_copied, option_map_or};
 ghost use Rattle.dt_tree.specs.TreeData.{TreeData};
 ghost use Rattle.dt_blob.specs.Holds.{Holds};
 ghost use Rattle.dt_check_table.specs.Selected.{level_at};
-ghost use Rattle.dtman_check.specs.Answers.{least_of, is_shown, Judges};
+ghost use Rattle.dtman_check.specs.Answers.{least_of, has_line, is_added, written_count, nodes_in, Judges};
+ghost use Rattle.dtman_check.specs.Sources.{places_in};
 
 use crate::line::{Shape, put_line};
-use crate::places::{Located, Source, locate_findings};
+use crate::places::{Located, locate_findings};
 use crate::writer::Writer;
 use dt_blob::{BlobError, read};
-use dt_check::Survey;
-use dt_check_table::{Finding, Least, Reference, Selection, run_checks};
-use dt_tree::{Name, Path, Tree, TreeError};
+use dt_check::{Placed, Survey};
+use dt_check_table::{Finding, Least, Reference, Selection, Subject, run_checks};
+use dt_making::Places;
+use dt_tree::Tree;
 use std::alloc::{AllocError, Global};
 use std::hash::RandomState;
 
-/// What a tree was made of.
-#[derive(Clone, Copy, Debug, PartialEq, Eq)]
-pub enum Origin {
-    /// A source: the nodes that its compiler added are left out.
-    Source,
-    Blob,
+/// The source that a tree was made of.
+#[derive(Clone, Copy)]
+pub struct Source<'a> {
+    /// With all that it takes in, 16 MiB at most.
+    pub text: &'a [u8],
+    /// Where it has the tree.
+    pub places: &'a Places,
 }
 
 /// What is asked of the lines.
@@ -28,8 +32,8 @@ pub enum Origin {
 pub struct Asked<'a> {
     /// What the file is called.
     pub file: &'a [u8],
-    /// The source with all that it takes in, whose lines are told; no bytes where there is none.
-    pub text: &'a [u8],
+    /// Whose lines are told, where there is one.
+    pub source: Option<Source<'a>>,
     /// What `unknown_property` goes by.
     pub reference: &'a Reference<'a>,
     pub shape: Shape,
@@ -39,10 +43,15 @@ pub struct Asked<'a> {
 
 impl<'a> Asked<'a> {
     /// Of a file, by what `unknown_property` goes by: plain lines of all, without places.
-    pub fn of(file: &'a [u8], reference: &'a Reference<'a>) -> Self {
+    pub fn of(file: &'a [u8], reference: &'a Reference<'a>) -> Self
+        ensures file { result.file ≡ file.entry }
+        ensures source { result.source ≡ None }
+        ensures reference { result.reference ≡ reference.entry }
+        ensures shape { (result.shape ≡ Shape.Plain) × (result.quiet ≡ 0) }
+    {
         Self {
             file,
-            text: b"",
+            source: None,
             reference,
             shape: Shape::Plain,
             quiet: 0,
@@ -50,10 +59,12 @@ impl<'a> Asked<'a> {
     }
 
     /// With the places of a source.
-    pub fn in_text(self, text: &'a [u8]) -> Self {
+    pub fn in_source(self, source: Source<'a>) -> Self
+        ensures { result ≡ record self.entry { source = Some source.entry } }
+    {
         Self {
             file: self.file,
-            text,
+            source: Some(source),
             reference: self.reference,
             shape: self.shape,
             quiet: self.quiet,
@@ -61,10 +72,12 @@ impl<'a> Asked<'a> {
     }
 
     /// In this shape, and so quiet.
-    pub fn shaped(self, shape: Shape, quiet: usize) -> Self {
+    pub fn shaped(self, shape: Shape, quiet: usize) -> Self
+        ensures { result ≡ record self.entry { shape = shape; quiet = quiet } }
+    {
         Self {
             file: self.file,
-            text: self.text,
+            source: self.source,
             reference: self.reference,
             shape,
             quiet,
@@ -80,8 +93,8 @@ pub struct Answer {
     pub failed: bool,
 }
 
-fn is_told(selection: &Selection, check: usize, quiet: usize) -> bool
-    ensures { result ≡ is_shown quiet (level_at selection.now.levels check) }
+fn has_line(selection: &Selection, check: usize, quiet: usize) -> bool
+    ensures { result ≡ has_line quiet (level_at selection.now.levels check) }
 {
     let level = selection.level(check);
     (level.warns && quiet < 1) || (level.fails && quiet < 2)
@@ -107,7 +120,7 @@ fn put_findings(
 ) -> Result<(), AllocError> {
     let places = places_of(alloc, survey, findings, asked)?;
     for (index, finding) in findings.iter().enumerate() {
-        if is_told(selection, finding.check, asked.quiet) {
+        if has_line(selection, finding.check, asked.quiet) {
             let located = places.get(index).copied().unwrap_or(nowhere());
             put_line(alloc, writer, survey, selection, asked, finding, located)?;
         }
@@ -129,17 +142,87 @@ fn places_of<'a>(
     findings: &[Finding<'_>],
     asked: Asked<'a>,
 ) -> Result<Vec<Located<'a>>, AllocError> {
-    if findings.is_empty() || asked.text.is_empty() || asked.quiet > 1 {
-        return Ok(Vec::new(alloc));
+    match asked.source {
+        Some(source) if !findings.is_empty() && asked.quiet < 2 => {
+            locate_findings(alloc, asked.file, source, survey, findings)
+        }
+        _ => Ok(Vec::new(alloc)),
     }
-    let source = Source {
-        file: asked.file,
-        text: asked.text,
-    };
-    locate_findings(alloc, source, survey, findings)
 }
 
-/// The lines of what the checks find in a tree.
+// Whether a node below the root is none of the text's: what a compiler adds of its own, behind all others.
+fn is_added(places: &Places, place: usize, placed: &Placed<'_>) -> bool
+    ensures { result ≡ is_added places.now place placed.now }
+{
+    let at = match places.nodes.get(place) {
+        None => 0,
+        Some(at) => *at,
+    };
+    at == 0 && is_below_root(placed.above())
+}
+
+fn is_below_root(above: Option<usize>) -> bool
+    ensures { result ≡ option_map_or (λ place. place == 0) above false }
+{
+    match above {
+        None => false,
+        Some(place) => place == 0,
+    }
+}
+
+// How many nodes stand before the first that is added.
+fn written_count(survey: &Survey<'_>, places: &Places) -> usize
+    ensures { result ≡ written_count places.now 0 survey.now }
+{
+    let nodes = survey.as_slice();
+    for (place, placed) in nodes.iter().enumerate() {
+        if is_added(places, place, placed) {
+            return place;
+        }
+    }
+    nodes.len()
+}
+
+fn written_survey<'t>(
+    alloc: Global,
+    hasher: RandomState,
+    tree: &'t Tree,
+    places: &Places,
+) -> Result<Survey<'t>, AllocError>
+    ensures { IfOk result (λ survey. survey ≡ nodes_in (Some places.now) tree.now.root) }
+{
+    let survey = Survey::of(alloc, hasher, tree)?;
+    let count = written_count(&survey, places);
+    if count == survey.len() {
+        return Ok(survey);
+    }
+    Survey::of_first(alloc, hasher, tree, count)
+}
+
+fn survey_of<'t>(
+    alloc: Global,
+    hasher: RandomState,
+    tree: &'t Tree,
+    written: Option<&Places>,
+) -> Result<Survey<'t>, AllocError>
+    ensures { IfOk result (λ survey. survey ≡ nodes_in (option_copied written.entry) tree.now.root) }
+{
+    match written {
+        None => Survey::of(alloc, hasher, tree),
+        Some(places) => written_survey(alloc, hasher, tree, places),
+    }
+}
+
+fn places_in<'a>(source: Option<Source<'a>>) -> Option<&'a Places>
+    ensures { option_copied result ≡ places_in source.entry }
+{
+    match source {
+        None => None,
+        Some(source) => Some(source.places),
+    }
+}
+
+/// The lines of what the checks find in a tree: of a source, in the nodes that its text has.
 pub fn check_tree(
     alloc: Global,
     hasher: RandomState,
@@ -147,16 +230,18 @@ pub fn check_tree(
     selection: &Selection,
     asked: Asked<'_>,
 ) -> Result<Answer, AllocError>
-    ensures { IfOk result (λ answer. Judges tree.now.root selection.now asked.entry.quiet answer.failed) }
+    ensures { IfOk result (λ answer.
+        Judges (places_in asked.entry.source) tree.now.root selection.now asked.entry.quiet answer.failed) }
 {
-    let survey = Survey::of(alloc, hasher, tree)?;
-    let report = run_checks(
+    let written = places_in(asked.source);
+    let survey = survey_of(alloc, hasher, tree, written)?;
+    let subject = Subject {
         alloc,
-        &survey,
-        asked.reference,
-        selection,
-        least_of(asked.quiet),
-    )?;
+        survey: &survey,
+        written,
+        reference: asked.reference,
+    };
+    let report = run_checks(subject, selection, least_of(asked.quiet))?;
     let mut writer = Writer::new(alloc);
     put_findings(
         alloc,
@@ -173,42 +258,17 @@ pub fn check_tree(
     })
 }
 
-fn take_out(alloc: Global, tree: &mut Tree, name: &[u8]) -> Result<(), TreeError> {
-    let root = Path::parse(alloc, b"/")?;
-    let name = Name::new(alloc, name)?;
-    let _ = tree.remove_child(&root, &name)?;
-    Ok(())
-}
-
-// Takes out the nodes that a compiler adds below the root.
-fn take_out_added(alloc: Global, tree: &mut Tree) -> Result<(), TreeError> {
-    take_out(alloc, tree, b"__symbols__")?;
-    take_out(alloc, tree, b"__fixups__")?;
-    take_out(alloc, tree, b"__local_fixups__")
-}
-
-fn tree_of(alloc: Global, blob: &[u8], origin: Origin) -> Result<Tree, BlobError>
-    ensures { origin ≡ Origin.Blob → IfOk result (λ tree. Holds blob.now tree) }
-{
-    let mut tree = read(alloc, blob)?;
-    if origin == Origin::Source && take_out_added(alloc, &mut tree).is_err() {
-        return Err(BlobError::NoMemory);
-    }
-    Ok(tree)
-}
-
-/// The same of the tree that a blob holds, which was made of this.
+/// The same of the tree that a blob holds: places aren't told, nor references asked for.
 pub fn check_blob(
     alloc: Global,
     hasher: RandomState,
     blob: &[u8],
-    origin: Origin,
     selection: &Selection,
     asked: Asked<'_>,
 ) -> Result<Answer, BlobError>
-    ensures { origin ≡ Origin.Blob → IfOk result (λ answer. (tree : TreeData) × Holds blob.now tree
-        × Judges tree.root selection.now asked.entry.quiet answer.failed) }
+    ensures { IfOk result (λ answer. (tree : TreeData) × Holds blob.now tree
+        × Judges (places_in asked.entry.source) tree.root selection.now asked.entry.quiet answer.failed) }
 {
-    let tree = tree_of(alloc, blob, origin)?;
+    let tree = read(alloc, blob)?;
     Ok(check_tree(alloc, hasher, &tree, selection, asked)?)
 }

@@ -14,7 +14,7 @@ mod places;
 mod words;
 mod writer;
 
-pub use answer::{Answer, Asked, Origin, check_blob, check_tree, least_of};
+pub use answer::{Answer, Asked, Source, check_blob, check_tree, least_of};
 pub use learning::Learned;
 pub use line::Shape;
 pub use paths::path_at;

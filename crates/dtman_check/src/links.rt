@@ -71,6 +71,10 @@ pub fn say_lists(writer: &mut Writer, message: Message) -> Result<bool, AllocErr
             writer.count("has ", bytes)?;
             writer.put(b" bytes; wanted is a multiple of 4")?;
         }
+        Message::NotAReference(cell) => {
+            writer.count("cell ", cell)?;
+            writer.put(b" is not a phandle reference")?;
+        }
         Message::NoNode(cell) => {
             writer.count("no node has the phandle in cell ", cell)?;
         }

@@ -1,12 +1,10 @@
 //! Where findings stand in the user's files.
-use crate::paths::path_at;
+use crate::answer::Source;
 use dt_check::Survey;
 use dt_check_table::Finding;
-use dt_lexeme::{Kind, Language, Lexeme, scan_front};
 use dt_place::{Position, positions_of};
-use dt_trace::{Definitions, Sought, fragment_names};
+use dt_tree::Node;
 use std::alloc::{AllocError, Global};
-use std::collections::BTreeSet;
 
 /// A name in a text of the user's: the file, the line from 1, the columns from 1 of its first byte and behind its last.
 #[derive(Clone, Copy)]
@@ -24,20 +22,11 @@ pub struct Located<'a> {
     pub above: Option<Site<'a>>,
 }
 
-/// A source with all that it takes in.
-#[derive(Clone, Copy)]
-pub struct Source<'a> {
-    /// What the file is called in which no line marker names another.
-    pub file: &'a [u8],
-    /// 16 MiB at most; else nothing in it has a place.
-    pub text: &'a [u8],
-}
-
 /// The bytes of a name in the text.
 #[derive(Clone, Copy)]
 struct Spot {
     start: usize,
-    end: usize,
+    length: usize,
 }
 
 #[derive(Clone, Copy)]
@@ -46,25 +35,23 @@ struct Spots {
     above: Option<Spot>,
 }
 
-/// How long a text is at most, in bytes.
-const MAX_TEXT_LEN: usize = 16777216;
-
-/// The places of these findings, one by one, in one pass over the text.
+/// The places of these findings, one by one; of a finding of no node, none. In a text that no line marker says the file of, it is
+/// this one.
 pub fn locate_findings<'a>(
     alloc: Global,
+    file: &'a [u8],
     source: Source<'a>,
     survey: &Survey<'_>,
     findings: &[Finding<'_>],
 ) -> Result<Vec<Located<'a>>, AllocError> {
-    if source.text.len() > MAX_TEXT_LEN {
-        return Ok(Vec::new(alloc));
+    let mut spots = Vec::with_capacity(alloc, findings.len())?;
+    for finding in findings {
+        spots.push(spots_of(source, survey, finding))?;
     }
-    let (lexemes, _) = scan_front(alloc, source.text, Language::Dtc)?;
-    let spots = spots_of(alloc, source.text, lexemes.as_slice(), survey, findings)?;
     let starts = starts_of(alloc, spots.as_slice())?;
     let positions = positions_of(alloc, source.text, starts.as_slice())?;
     let sites = Sites {
-        file: source.file,
+        file,
         starts,
         positions,
     };
@@ -78,119 +65,86 @@ pub fn locate_findings<'a>(
     Ok(located)
 }
 
-// The path of each finding's node; of what is of no node, nothing.
-fn paths_of(
-    alloc: Global,
-    survey: &Survey<'_>,
-    findings: &[Finding<'_>],
-) -> Result<Vec<Vec<u8>>, AllocError> {
-    let mut paths = Vec::with_capacity(alloc, findings.len())?;
-    for finding in findings {
-        match finding.node {
-            None => paths.push(Vec::new(alloc))?,
-            Some(node) => paths.push(path_at(alloc, survey, node)?)?,
-        }
-    }
-    Ok(paths)
-}
-
-// The names of the properties that are told of.
-fn names_of(alloc: Global, findings: &[Finding<'_>]) -> Result<Vec<Vec<u8>>, AllocError> {
-    let mut names = BTreeSet::new(alloc);
-    for finding in findings {
-        if let Some(name) = finding.property {
-            names.insert(Vec::from_slice(alloc, name)?)?;
-        }
-    }
-    let mut kept = Vec::with_capacity(alloc, names.len())?;
-    for name in names.iter() {
-        kept.push(Vec::from_slice(alloc, name.as_slice())?)?;
-    }
-    Ok(kept)
-}
-
-// The names of a plugin's fragments.
-fn fragments_of(alloc: Global, lexemes: &[Lexeme]) -> Result<Vec<Vec<u8>>, AllocError> {
-    if lexemes.iter().any(|lexeme| lexeme.kind == Kind::Plugin) {
-        return fragment_names(alloc, lexemes);
-    }
-    Ok(Vec::new(alloc))
-}
-
-fn spots_of(
-    alloc: Global,
-    text: &[u8],
-    lexemes: &[Lexeme],
-    survey: &Survey<'_>,
-    findings: &[Finding<'_>],
-) -> Result<Vec<Spots>, AllocError> {
-    let fragments = fragments_of(alloc, lexemes)?;
-    let paths = paths_of(alloc, survey, findings)?;
-    let names = names_of(alloc, findings)?;
-    let definitions = Definitions::of(
-        alloc,
-        Language::Dtc,
-        text,
-        lexemes,
-        fragments.as_slice(),
-        Sought {
-            paths: paths.as_slice(),
-            names: names.as_slice(),
-        },
-    )?;
-    let mut spots = Vec::with_capacity(alloc, findings.len())?;
-    for (finding, path) in findings.iter().zip(paths.iter()) {
-        spots.push(spots_at(&definitions, lexemes, path.as_slice(), finding.property))?;
-    }
-    Ok(spots)
-}
-
-// A property that the compiler added is where its node is.
-fn spots_at<'t>(
-    definitions: &Definitions<'t>,
-    lexemes: &[Lexeme],
-    path: &'t [u8],
-    property: Option<&'t [u8]>,
-) -> Spots {
-    if path.is_empty() {
+// A property that the compiler added is where its node is; above the root is the root.
+fn spots_of(source: Source<'_>, survey: &Survey<'_>, finding: &Finding<'_>) -> Spots {
+    let Some(place) = finding.node else {
         return Spots {
             own: None,
             above: None,
         };
-    }
-    let found = match property {
+    };
+    let found = match finding.property {
         None => None,
-        Some(name) => definitions.property(path, name),
+        Some(name) => property_spot(source, survey, place, name),
     };
     let own = match found {
-        None => definitions.node(path),
-        Some(lexeme) => Some(lexeme),
+        None => node_spot(source, survey, place),
+        Some(spot) => Some(spot),
     };
+    let above = survey.above(place).unwrap_or(place);
     Spots {
-        own: spot_of(lexemes, own),
-        above: spot_of(lexemes, definitions.node(path_above(path))),
+        own,
+        above: node_spot(source, survey, above),
     }
 }
 
-/// The path of the node above: of the root its own.
-pub fn path_above(path: &[u8]) -> &[u8] {
-    match path.iter().rposition(|byte| *byte == b'/') {
-        None | Some(0) => b"/",
-        Some(slash) => path.get(..slash).unwrap_or(path),
-    }
-}
-
-fn spot_of(lexemes: &[Lexeme], lexeme: Option<usize>) -> Option<Spot> {
-    let lexeme = lexemes.get(lexeme?)?;
+fn property_spot(
+    source: Source<'_>,
+    survey: &Survey<'_>,
+    place: usize,
+    name: &[u8],
+) -> Option<Spot> {
+    let index = index_of(survey.node(place)?, name)?;
     Some(Spot {
-        start: lexeme.start as usize,
-        end: lexeme.end as usize,
+        start: source.places.property(place, index)? as usize,
+        length: name.len(),
     })
+}
+
+// Which of a node's properties has a name.
+fn index_of(node: &Node, name: &[u8]) -> Option<usize> {
+    node.properties()
+        .iter()
+        .position(|property| property.name.as_bytes() == name)
+}
+
+// A node is where its name stands, or the reference that a fragment of a plugin is written by.
+fn node_spot(source: Source<'_>, survey: &Survey<'_>, place: usize) -> Option<Spot> {
+    let node = survey.node(place)?;
+    let start = source.places.node(place)? as usize;
+    Some(Spot {
+        start,
+        length: length_at(source.text, start, node.name_bytes()),
+    })
+}
+
+fn length_at(text: &[u8], start: usize, name: &[u8]) -> usize {
+    match text.get(start..) {
+        Some([b'&', b'{', path @ ..]) => path_length(path).saturating_add(3),
+        Some([b'&', label @ ..]) => label_length(label).saturating_add(1),
+        // the root's slash
+        _ => name.len().max(1),
+    }
+}
+
+// Up to the brace that ends a path.
+fn path_length(text: &[u8]) -> usize {
+    text.iter().position(|byte| *byte == b'}').unwrap_or(0)
+}
+
+fn label_length(text: &[u8]) -> usize {
+    text.iter()
+        .position(|byte| !is_of_label(*byte))
+        .unwrap_or(text.len())
+}
+
+fn is_of_label(byte: u8) -> bool {
+    byte.is_ascii_alphanumeric() || byte == b'_'
 }
 
 // The places of all names, in order.
 fn starts_of(alloc: Global, spots: &[Spots]) -> Result<Vec<usize>, AllocError> {
-    let mut starts = Vec::new(alloc);
+    let mut starts = Vec::with_capacity(alloc, spots.len())?;
     for spots in spots {
         if let Some(spot) = spots.own {
             starts.push(spot.start)?;
@@ -218,12 +172,19 @@ impl<'a> Sites<'a> {
             return None;
         };
         let position = self.positions.get(index)?;
-        let length = spot.end.saturating_sub(spot.start);
         Some(Site {
             file: position.file.unwrap_or(self.file),
             line: position.line,
             column: position.column,
-            end: position.column.saturating_add(length),
+            end: position.column.saturating_add(spot.length),
         })
+    }
+}
+
+/// The path of the node above: of the root its own.
+pub fn path_above(path: &[u8]) -> &[u8] {
+    match path.iter().rposition(|byte| *byte == b'/') {
+        None | Some(0) => b"/",
+        Some(slash) => path.get(..slash).unwrap_or(path),
     }
 }

@@ -1,4 +1,6 @@
 //! Text that is put together.
+ghost use Rattle.std.specs.Prelude.{◌≡◌, ◌∷◌, ◌++◌, [], codes, decimal, OnOk};
+
 use std::alloc::{AllocError, Global};
 
 /// Text so far.
@@ -10,7 +12,9 @@ pub struct Writer {
 
 impl Writer {
     /// No text.
-    pub fn new(alloc: Global) -> Self {
+    pub fn new(alloc: Global) -> Self
+        ensures { result.text.items ≡ [] }
+    {
         Self {
             alloc,
             text: Vec::new(alloc),
@@ -18,12 +22,16 @@ impl Writer {
     }
 
     /// Puts bytes last.
-    pub fn put(&mut self, bytes: &[u8]) -> Result<(), AllocError> {
+    pub fn put(&mut self, bytes: &[u8]) -> Result<(), AllocError>
+        ensures { OnOk result (self.new.text.items ≡ self.old.text.items ++ bytes.now) }
+    {
         self.text.extend_from_slice(bytes)
     }
 
     /// Puts a word and then a number.
-    pub fn count(&mut self, word: &str, number: usize) -> Result<(), AllocError> {
+    pub fn count(&mut self, word: &str, number: usize) -> Result<(), AllocError>
+        ensures { OnOk result (self.new.text.items ≡ self.old.text.items ++ word.now ++ decimal number) }
+    {
         let text = format!(in self.alloc; "{word}{number}")?;
         self.text.extend_from_slice(text.as_bytes())
     }
@@ -35,7 +43,10 @@ impl Writer {
     }
 
     /// Puts a word and then a byte of a name, in quotes.
-    pub fn byte(&mut self, word: &str, byte: u8) -> Result<(), AllocError> {
+    pub fn byte(&mut self, word: &str, byte: u8) -> Result<(), AllocError>
+        ensures { OnOk result
+            (self.new.text.items ≡ self.old.text.items ++ word.now ++ codes " '" ++ byte ∷ codes "'") }
+    {
         self.put(word.as_bytes())?;
         self.put(b" '")?;
         self.text.push(byte)?;

@@ -85,7 +85,8 @@ IsMet (Compile source out symbols language) name rows =
     × IsLanguage language rows
 IsMet (Overlay base overlay out) name rows =
     (name ≡ codes "overlay") × (first_of (codes "BASE") rows ≡ Some base.now) × (first_of (codes "OVERLAY") rows ≡ Some overlay.now) × (first_of (codes "OUT") rows ≡ Some out.now)
-IsMet (Dump blob) name rows = (name ≡ codes "dump") × (first_of (codes "IN") rows ≡ Some blob.now)
+IsMet (Dump blob labels) name rows =
+    (name ≡ codes "dump") × (first_of (codes "IN") rows ≡ Some blob.now) × (labels ≡ is_on (first_of (codes "labels") rows))
 IsMet (Plan board picture) name rows = (name ≡ codes "plan") × IsBoard board rows × IsPicture picture rows
 IsMet (Probe board workers without) name rows =
     (name ≡ codes "probe") × IsBoard board rows × AreWorkers workers rows × IsText without (codes "without") rows

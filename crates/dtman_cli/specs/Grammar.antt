@@ -13,12 +13,12 @@ required id = record (new_rule id) { required = true }
 abbrev pub optional : Text → Rule
 optional id = new_rule id
 
-abbrev pub dump : App
-dump = with_rule (new_app (codes "dump")) (required (codes "IN"))
-
 -- an option without a value
 abbrev pub flag : Text → Rule
 flag id = record (new_rule id) { long = Some id; action = Some SetTrue }
+
+abbrev pub dump : App
+dump = with_rule (with_rule (new_app (codes "dump")) (required (codes "IN"))) (flag (codes "labels"))
 
 -- an option with a number from 1 to the most
 abbrev pub asked_number : Text → ℕ → Rule

@@ -1,5 +1,6 @@
 pub mod CommandLine
 pub mod Grammar
+pub mod Labelled
 pub mod Making
 pub mod Outcome
 pub mod Shortfall

@@ -1,6 +1,6 @@
 -- What `compile --dtc` answers of a source: what dtc's language makes of it with all that it takes in, or why that isn't whole
 -- (dtc 1.6, Documentation/manual.txt, section 4.1, and Documentation/dts-format.txt).
-use Rattle.std.specs.Prelude.{◌≡◌, ℕ, List, IfErr, IfOk}
+use Rattle.std.specs.Prelude.{◌≡◌, ℕ, List, IfErr, IfOk, Result}
 use Rattle.dt_include.specs.Inclusion.{IsIncluded}
 use Rattle.dt_include.specs.Shortfall.{Stops}
 use Rattle.dt_include.specs.declared.inclusion.Found.{Found}
@@ -10,8 +10,10 @@ use Rattle.dt_source.specs.Filled.{filled}
 use Rattle.dt_source.specs.Parse.{Says}
 use Rattle.dt_meaning.specs.Syntax.{Meaning}
 use Rattle.dtman_engine.specs.CompileDtc.{AnswersFilled, IsDtcCompiled, IsDtcRefusal}
-use Rattle.dtman_engine.specs.Fault.{Answer, fault_value}
+use Rattle.dtman_engine.specs.Fault.{fault_value}
+use Rattle.dtman_engine.specs.declared.compiling_dtc.Compiled.{Compiled}
 use Rattle.dtman_engine.specs.declared.compiling_dtc.DtcOptions.{DtcOptions}
+use Rattle.dtman_engine.specs.declared.fault.Fault.{Fault}
 use Rattle.dtman_cli.specs.declared.outcome.Outcome.{Outcome}
 use Rattle.dtman_cli.specs.declared.outcome.Outcome.TheVariants.{Answered, Short}
 
@@ -25,11 +27,11 @@ Lacking = List ℕ → List ℕ → Type 0
 
 -- The compiler's answer of a source of a name, with all that it takes in: of the whole text and the files that it names, the blob of
 -- what these say in dtc's language, or why there is none.
-pub record IsAnswer (Finds : Finding) (name source : List ℕ) (options : DtcOptions) (text : List ℕ) (given : Answer) : Type 0 where
+pub record IsAnswer (Finds : Finding) (name source : List ℕ) (options : DtcOptions) (text : List ℕ) (given : Result Compiled Fault) : Type 0 where
   pub whole : Whole
   pub included : IsIncluded Finds name source whole
   pub text_is : text ≡ whole.text.items
-  pub answer : IfOk given (λ blob. IsDtcCompiled options text whole.binaries.items blob.items)
+  pub answer : IfOk given (λ made. IsDtcCompiled options text whole.binaries.items made.blob.items)
   pub said : (m : Meaning) → Says Dtc text m → AnswersFilled options text (filled whole.binaries.items m) given
   pub refused : IfErr given (λ fault. IsDtcRefusal options text whole.binaries.items (fault_value fault))
 

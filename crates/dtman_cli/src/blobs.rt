@@ -4,6 +4,7 @@ use crate::compiling::{Made, Manner, dtc_made, profile_blob};
 use crate::diagnosing::{Inputs, file_of};
 use crate::failure::Failure;
 use crate::host::Host;
+use crate::labelling::labelled_bytes;
 use crate::performing::Answer;
 use crate::subcommand::Language;
 use crate::surroundings::Surroundings;
@@ -27,7 +28,7 @@ pub fn compiled<'a, S: Surroundings, E: Eprint, T>(
     let bytes = match language {
         Language::Profile => profile_blob(host.alloc, hasher, text, manner)?,
         Language::Dtc { folders } => {
-            let Made { blob, .. } = dtc_made(
+            let Made { compiled, .. } = dtc_made(
                 host.alloc,
                 hasher,
                 host.surroundings,
@@ -35,7 +36,7 @@ pub fn compiled<'a, S: Surroundings, E: Eprint, T>(
                 text,
                 manner,
             )?;
-            blob
+            compiled.blob
         }
     };
     Ok(Answer::File { path: out, bytes })
@@ -58,13 +59,20 @@ pub fn overlaid<'a, S: Surroundings, E: Eprint, T>(
     }
 }
 
-/// The canonical source of a blob.
+/// The canonical source of a blob, or the one with labels.
 pub fn dumped<'a, S: Surroundings, E: Eprint, T>(
     host: &mut Host<'_, S, E, T>,
     path: &'a str,
+    labels: bool,
 ) -> Result<Answer<'a>, Failure<'a>> {
     let blob = host.blob(path)?;
-    match dump_bytes(host.alloc, blob.as_slice()) {
+    let text = if labels {
+        let hasher = host.seed()?;
+        labelled_bytes(host.alloc, hasher, blob.as_slice())
+    } else {
+        dump_bytes(host.alloc, blob.as_slice())
+    };
+    match text {
         Ok(text) => Ok(Answer::Text(text)),
         Err(fault) => Err(host.refusal(fault, Inputs::Blob(file_of(path, &blob)))),
     }

@@ -12,9 +12,10 @@ use crate::surroundings::Surroundings;
 use bus_plan::PlanError;
 use dt_blob::BlobError;
 use dt_check_table::{BadReference, CHECK_COUNT, Kind, Reference, Selection, check_at};
-use dtman_check::{Asked, Learned, Origin, Shape, check_blob};
+use dtman_check::{Answer as Checked, Asked, Learned, Shape, Source, check_blob, check_tree};
 use dtman_engine::Fault;
 use std::alloc::{AllocError, Global};
+use std::hash::RandomState;
 
 /// The check that goes by what is known of boards.
 const UNKNOWN_PROPERTY: &str = "unknown_property";
@@ -77,16 +78,36 @@ fn tell<'a, S: Surroundings, E: Eprint, T>(
     lines: &mut Lines,
 ) -> Result<(), Failure<'a>> {
     let hasher = host.seed()?;
-    let asked = Asked::of(named(subject.path).as_bytes(), reference)
-        .in_text(subject.made.text.as_slice())
-        .shaped(shape_of(host.detail, inspection), inspection.quiet as usize);
-    let blob = subject.made.blob.as_slice();
-    match check_blob(host.alloc, hasher, blob, subject.origin, selection, asked) {
+    let asked = Asked::of(named(subject.path).as_bytes(), reference).shaped(
+        shape_of(host.detail, inspection),
+        inspection.quiet as usize,
+    );
+    match answer_of(host.alloc, hasher, &subject.given, selection, asked) {
         Ok(answer) => {
             lines.failed = lines.failed || answer.failed;
             add(&mut lines.text, answer.text.as_slice())
         }
         Err(error) => Err(no_blob(host, subject, error)),
+    }
+}
+
+fn answer_of(
+    alloc: Global,
+    hasher: RandomState,
+    given: &Board,
+    selection: &Selection,
+    asked: Asked<'_>,
+) -> Result<Checked, BlobError> {
+    match given {
+        Board::Blob(blob) => check_blob(alloc, hasher, blob.as_slice(), selection, asked),
+        Board::Source(Made { compiled, text }) => {
+            let source = Source {
+                text: text.as_slice(),
+                places: &compiled.places,
+            };
+            let asked = asked.in_source(source);
+            Ok(check_tree(alloc, hasher, &compiled.tree, selection, asked)?)
+        }
     }
 }
 
@@ -115,12 +136,26 @@ fn named(path: &str) -> &str {
 
 // ---- what is checked
 
-// A blob as a file has it or as it is compiled of one, and what it was.
+// A board: a blob as a file has it, or a source that was compiled.
+#[derive(Drop)]
+enum Board {
+    Blob(Vec<u8>),
+    Source(Made),
+}
+
+impl Board {
+    fn blob(&self) -> &Vec<u8> {
+        match self {
+            Board::Blob(blob) => blob,
+            Board::Source(made) => &made.compiled.blob,
+        }
+    }
+}
+
 #[derive(Drop)]
 struct Subject<'a> {
     path: &'a str,
-    origin: Origin,
-    made: Made,
+    given: Board,
 }
 
 fn taken<'a, S: Surroundings, E: Eprint, T>(
@@ -129,23 +164,12 @@ fn taken<'a, S: Surroundings, E: Eprint, T>(
     path: &'a str,
 ) -> Result<Subject<'a>, Failure<'a>> {
     let bytes = host.blob(path)?;
-    if is_blob(path, bytes.as_slice()) {
-        let made = Made {
-            blob: bytes,
-            text: Vec::new(host.alloc),
-        };
-        return Ok(Subject {
-            path,
-            origin: Origin::Blob,
-            made,
-        });
-    }
-    let made = compiled(host, inspection, file_of(path, &bytes))?;
-    Ok(Subject {
-        path,
-        origin: Origin::Source,
-        made,
-    })
+    let given = if is_blob(path, bytes.as_slice()) {
+        Board::Blob(bytes)
+    } else {
+        Board::Source(compiled(host, inspection, file_of(path, &bytes))?)
+    };
+    Ok(Subject { path, given })
 }
 
 fn compiled<'a, S: Surroundings, E: Eprint, T>(
@@ -184,7 +208,7 @@ fn no_blob<'a, S: Surroundings, E: Eprint, T>(
     subject: &Subject<'a>,
     error: BlobError,
 ) -> Failure<'a> {
-    let blob = file_of(subject.path, &subject.made.blob);
+    let blob = file_of(subject.path, subject.given.blob());
     host.refusal(Fault::from(error), Inputs::Blob(blob))
 }
 
@@ -303,7 +327,7 @@ fn learn_of<'a, S: Surroundings, E: Eprint, T>(
 ) -> Result<(), Failure<'a>> {
     let subject = taken(host, inspection, path)?;
     let hasher = host.seed()?;
-    match learned.add_blob(host.alloc, hasher, subject.made.blob.as_slice()) {
+    match learned.add_blob(host.alloc, hasher, subject.given.blob().as_slice()) {
         Ok(()) => Ok(()),
         Err(error) => Err(no_blob(host, &subject, error)),
     }

@@ -1,15 +1,17 @@
 //! The blob of a source, or what is told of its refusal.
 
-use crate::detail::{Detail, told};
-use crate::diagnosing::{Given, Inputs};
+use crate::detail::Detail;
+use crate::diagnosing::Given;
 use crate::failure::Failure;
 use crate::folders::Folders;
+use crate::further::{Again, source_told};
 use crate::outcome::{Outcome, compile_dtc};
 use crate::shortfalls::fallen_short;
 use crate::surroundings::Surroundings;
 use crate::user_places::in_user_file;
 use dt_include::plain;
-use dtman_engine::{DtcOptions, compile_bytes};
+use dt_lexeme::Language;
+use dtman_engine::{Compiled, DtcOptions, compile_bytes};
 use std::alloc::Global;
 use std::hash::RandomState;
 
@@ -29,25 +31,23 @@ pub fn profile_blob<'a>(
     source: Given<'_>,
     manner: Manner,
 ) -> Result<Vec<u8>, Failure<'a>> {
-    let symbols = manner.symbols;
-    match compile_bytes(alloc, hasher, source.bytes, symbols) {
+    match compile_bytes(alloc, hasher, source.bytes, manner.symbols) {
         Ok(blob) => Ok(blob),
         Err(fault) => {
-            let text = source;
-            Err(told(
-                alloc,
-                manner.detail,
-                fault,
-                Inputs::Source { text, symbols },
-            ))
+            let again = Again {
+                hasher,
+                language: Language::Profile,
+                symbols: manner.symbols,
+            };
+            Err(source_told(alloc, manner.detail, again, fault, source))
         }
     }
 }
 
-/// A blob, and the source with all that it takes in.
+/// What was compiled, and the source with all that it takes in.
 #[derive(Drop)]
 pub struct Made {
-    pub blob: Vec<u8>,
+    pub compiled: Compiled,
     pub text: Vec<u8>,
 }
 
@@ -77,24 +77,29 @@ pub fn dtc_made<'a, S: Surroundings>(
         source.bytes,
         options,
     );
-    made_of(alloc, plain(source.name), manner, outcome)
+    made_of(alloc, hasher, plain(source.name), manner, outcome)
 }
 
 fn made_of<'a>(
     alloc: Global,
+    hasher: RandomState,
     name: &[u8],
     manner: Manner,
     outcome: Outcome,
 ) -> Result<Made, Failure<'a>> {
     match outcome {
         Outcome::Answered { text, answer } => match answer {
-            Ok(blob) => Ok(Made { blob, text }),
+            Ok(compiled) => Ok(Made { compiled, text }),
             Err(fault) => {
-                let symbols = manner.symbols;
                 let bytes = text.as_slice();
                 let text = Given { name, bytes };
                 let fault = in_user_file(name, bytes, fault);
-                Err(told(alloc, manner.detail, fault, Inputs::Whole { text, symbols }))
+                let again = Again {
+                    hasher,
+                    language: Language::Dtc,
+                    symbols: manner.symbols,
+                };
+                Err(source_told(alloc, manner.detail, again, fault, text))
             }
         },
         Outcome::Short(shortfall) => Err(fallen_short(alloc, name, manner.detail, shortfall)),

@@ -37,15 +37,9 @@ pub struct Planned<'a> {
 /// What a command read, of which its refusal is.
 #[derive(Clone, Copy)]
 pub enum Inputs<'a> {
-    Source {
-        text: Given<'a>,
-        symbols: bool,
-    },
+    Source(Given<'a>),
     /// A source in dtc's language with all that it takes in, by the name of the file that is the user's.
-    Whole {
-        text: Given<'a>,
-        symbols: bool,
-    },
+    Whole(Given<'a>),
     Overlay {
         base: Given<'a>,
         overlay: Given<'a>,
@@ -75,12 +69,8 @@ pub fn diagnosed(alloc: Global, inputs: Inputs<'_>, fault: Fault) -> Result<Diag
         offset: fault.offset(),
     };
     match inputs {
-        Inputs::Source { text, symbols } => {
-            diagnose_source(alloc, text.name, text.bytes, symbols, refused)
-        }
-        Inputs::Whole { text, symbols } => {
-            diagnose_dtc(alloc, text.name, text.bytes, symbols, refused)
-        }
+        Inputs::Source(text) => diagnose_source(alloc, text.name, text.bytes, refused),
+        Inputs::Whole(text) => diagnose_dtc(alloc, text.name, text.bytes, refused),
         Inputs::Overlay { base, overlay } => diagnose_overlay(
             alloc,
             base.name,
@@ -137,7 +127,7 @@ fn unplanned(alloc: Global, planned: Planned<'_>, fault: Fault) -> Result<Diagno
             let drivers = text_of(drivers, kind, Devices::Blob(blob.bytes));
             diagnose_text(alloc, drivers, fault.number, line)
         }
-        54..=56 => diagnose_plan(alloc, blob.name, blob.bytes, fault.number),
+        54..=56 => diagnose_plan(alloc, blob.name, blob.bytes, fault.number, fault.culprit),
         _ => diagnose_blob(alloc, blob.name, blob.bytes, fault.number),
     }
 }

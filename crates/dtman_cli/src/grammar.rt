@@ -223,7 +223,9 @@ fn dump<'a>(alloc: Global) -> Result<Command<'a>, AllocError>
     ensures { IfOk result (λ c. (app_of c ≡ spec.dump) × ((out-Command c).has_globals ≡ false)) }
 {
     let about = "Prints a blob as a canonical source";
-    named(alloc, "dump", about).arg(required(alloc, "IN", "The blob"))
+    let labels = "With labels, where the blob has __symbols__";
+    let command = named(alloc, "dump", about).arg(required(alloc, "IN", "The blob"));
+    add_argument(command, flag(alloc, "labels", labels))
 }
 
 fn plan<'a>(alloc: Global) -> Result<Command<'a>, AllocError>

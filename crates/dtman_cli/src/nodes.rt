@@ -26,6 +26,7 @@ fn unknown_path() -> Fault {
         number: 53,
         name: "UnknownPath",
         position: Position::Nowhere,
+        culprit: None,
     }
 }
 

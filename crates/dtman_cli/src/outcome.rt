@@ -2,7 +2,7 @@
 ghost use Rattle.dtman_cli.specs.Outcome.{IsOutcome};
 
 use dt_include::{Files, Shortfall, Whole, included};
-use dtman_engine::{DtcOptions, Fault, compile_dtc_bytes};
+use dtman_engine::{Compiled, DtcOptions, Fault};
 use std::alloc::Global;
 use std::hash::RandomState;
 
@@ -12,7 +12,7 @@ pub enum Outcome {
     /// The text with all that it takes in, and the compiler's answer of it, whose lines are those of that text.
     Answered {
         text: Vec<u8>,
-        answer: Result<Vec<u8>, Fault>,
+        answer: Result<Compiled, Fault>,
     },
     /// The text isn't whole.
     Short(Shortfall),
@@ -31,7 +31,13 @@ pub fn compile_dtc<F: Files>(
 {
     match included(alloc, files, name, source) {
         Ok(Whole { text, binaries }) => {
-            let answer = compile_dtc_bytes(alloc, hasher, text.as_slice(), binaries, options);
+            let answer = dtman_engine::compile_dtc(
+                alloc,
+                hasher,
+                text.as_slice(),
+                binaries,
+                options,
+            );
             Outcome::Answered { text, answer }
         }
         Err(shortfall) => Outcome::Short(shortfall),

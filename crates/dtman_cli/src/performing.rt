@@ -85,7 +85,7 @@ fn answer_of<'a, S: Surroundings, E: Eprint, T: Threads + Sync>(
             language,
         } => compiled(host, source, out, symbols, &language),
         Command::Overlay { base, overlay, out } => overlaid(host, base, overlay, out),
-        Command::Dump { blob } => dumped(host, blob),
+        Command::Dump { blob, labels } => dumped(host, blob, labels),
         Command::Plan { board, picture } => planned(host, board, picture),
         Command::Probe {
             board,

@@ -129,9 +129,9 @@ fn overlay<'a>(given: &ArgMatches<'a>) -> Option<Command<'a>>
 fn dump<'a>(given: &ArgMatches<'a>) -> Option<Command<'a>>
     ensures { IfSome result (λ command. IsMet command (codes "dump") (rows_of (found_of given.now))) }
 {
-    Some(Command::Dump {
-        blob: given.get_str("IN")?,
-    })
+    let blob = given.get_str("IN")?;
+    let labels = is_on(given, "labels");
+    Some(Command::Dump { blob, labels })
 }
 
 fn plan<'a>(given: &ArgMatches<'a>) -> Option<Command<'a>>

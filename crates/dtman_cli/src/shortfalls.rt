@@ -51,6 +51,7 @@ fn fault_at(kind: SourceErrorKind, site: &Option<Site>) -> Fault
             Some(site) => Position::Line(site.line),
             None => Position::Nowhere,
         },
+        culprit: None,
     }
 }
 

@@ -73,6 +73,8 @@ pub enum Command<'a> {
     },
     Dump {
         blob: &'a str,
+        /// Labels stand before their nodes, and where these are named.
+        labels: bool,
     },
     Plan {
         board: Board<'a>,

@@ -2,8 +2,8 @@
 
 use crate::alike::nearest_paths;
 use crate::bus_lines::{Word, first_word};
+use crate::device_rows::device_paths;
 use crate::diagnosis::{Diagnosis, Location, Note, Subject, copied};
-use bus_trace::device_paths;
 use dt_blob::read;
 use dt_tree::{Path, Tree};
 use std::alloc::{AllocError, Global};

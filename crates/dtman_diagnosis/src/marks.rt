@@ -1,14 +1,15 @@
 //! What is refused of a text, as bytes.
 
 use crate::advice::word_len;
+use crate::bodies::kind_before;
 use crate::diagnosis::Subject;
 use crate::escaping::character_len;
+use crate::meetings::Meeting;
 use crate::origins::Origin;
 use crate::refused::Stop;
 use dt_include::Span;
 use dt_lexeme::{Kind, Language, Lexeme};
 use dt_place::named;
-use dt_trace::{Culprit, Fault};
 
 /// Bytes that are refused, what they are, and what is told of them.
 #[derive(Clone, Copy)]
@@ -136,16 +137,17 @@ fn opens(language: Language, behind: &[u8]) -> bool {
 }
 
 /// What is refused of edits or references.
-pub(crate) fn mark_traced<'a>(
+pub(crate) fn mark_met<'a>(
     text: &'a [u8],
+    number: u8,
     lexemes: &[Lexeme],
-    culprit: &Culprit,
+    meeting: Meeting,
 ) -> Option<Mark<'a>> {
-    let lexeme = *lexemes.get(culprit.lexeme)?;
+    let lexeme = *lexemes.get(meeting.lexeme)?;
     Some(Mark {
         span: span_of(lexeme),
-        kind: match culprit.fault {
-            Fault::DuplicateInBody => doubled(lexemes, culprit, lexeme.kind),
+        kind: match number {
+            25 => doubled(lexemes, meeting, lexeme.kind),
             _ => subject_of(lexeme.kind),
         },
         subject: named(text, lexeme),
@@ -153,11 +155,11 @@ pub(crate) fn mark_traced<'a>(
 }
 
 // What stands twice: a name, or in dtc's language a deletion of what the body defines, or a name that was deleted before it was defined.
-fn doubled(lexemes: &[Lexeme], culprit: &Culprit, kind: Kind) -> Subject {
-    if is_deleted(lexemes, culprit.lexeme) {
+fn doubled(lexemes: &[Lexeme], meeting: Meeting, kind: Kind) -> Subject {
+    if is_deleted(lexemes, meeting.lexeme) {
         return Subject::Deletion;
     }
-    match culprit.other {
+    match meeting.other {
         Some(other) if is_deleted(lexemes, other) => Subject::Deleted,
         _ => subject_of(kind),
     }
@@ -165,14 +167,14 @@ fn doubled(lexemes: &[Lexeme], culprit: &Culprit, kind: Kind) -> Subject {
 
 /// Whether this is the name of what is deleted.
 pub(crate) fn is_deleted(lexemes: &[Lexeme], index: usize) -> bool {
-    match lexemes.get(..index) {
-        Some([.., before]) => matches!(before.kind, Kind::DeleteNode | Kind::DeleteProperty),
-        _ => false,
-    }
+    matches!(
+        kind_before(lexemes, index),
+        Some(Kind::DeleteNode | Kind::DeleteProperty)
+    )
 }
 
-// Where the element ends that begins with a lexeme: with its parenthesis, where it begins with one.
-fn element_end(lexemes: &[Lexeme], index: usize) -> usize {
+/// Where the element ends that begins with a lexeme: with its parenthesis, where it begins with one.
+pub(crate) fn element_end(lexemes: &[Lexeme], index: usize) -> usize {
     let mut parens: usize = 0;
     let mut end = 0;
     for lexeme in lexemes.get(index..).unwrap_or(&[]) {

@@ -12,6 +12,8 @@ pub(crate) struct Origin<'a> {
     pub language: Language,
     pub file: &'a [u8],
     pub text: &'a [u8],
+    /// The text whose lines are shown: the same, but for what stands there in the place of other faults.
+    pub shown: &'a [u8],
 }
 
 impl<'a> Origin<'a> {
@@ -32,7 +34,7 @@ impl<'a> Origin<'a> {
 
     fn in_profile(&self, alloc: Global, span: Span) -> Result<Location, AllocError> {
         let position = position_of(self.text, span.start);
-        let line = line_around(self.text, span.start, position.column);
+        let line = line_around(self.shown, span.start, position.column);
         Ok(Location::Text {
             file: copied(alloc, position.file.unwrap_or(self.file))?,
             line: position.line,
@@ -50,7 +52,7 @@ impl<'a> Origin<'a> {
             file: copied(alloc, place.file)?,
             line: place.line,
             column: columns.start,
-            text: copied(alloc, without_return(line_of(self.text, span)))?,
+            text: copied(alloc, without_return(line_of(self.shown, span)))?,
             marked: columns.end.saturating_sub(columns.start),
         })
     }

@@ -2,7 +2,7 @@
 
 use dt_lexeme::Lexeme;
 
-/// A refusal of a text: by which number, and at which of its bytes where that is known. Errors 10 to 16 have one, of 20 to 28 none is.
+/// A refusal of a text: by which number, and at which of its bytes where that is known, as it is of 10 to 16 and of 20 to 28.
 #[derive(Clone, Copy, Debug, PartialEq, Eq)]
 pub struct Refused {
     pub number: u8,

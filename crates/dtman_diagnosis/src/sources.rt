@@ -3,18 +3,27 @@
 use crate::advice::{Halt, advised, begins_statement};
 use crate::alike::{add_labels, nearest};
 use crate::blobs::of_file_with;
+use crate::bodies::fragment_names;
 use crate::brackets::{innermost, misfit_in, unclosed};
 use crate::diagnosis::{Diagnosis, Location, Note, Subject, copied};
+use crate::further::SourceText;
 use crate::hints::{hint, meant};
-use crate::marks::{Mark, mark_stopped, mark_traced, span_of};
+use crate::marks::{Mark, is_deleted, mark_met, mark_stopped, span_of};
+use crate::meetings::{Meeting, Reading};
 use crate::origins::Origin;
 use crate::refused::{Refused, stop_at};
 use dt_include::Span;
 use dt_lexeme::{Kind, Language, Lexeme, scan_front};
 use dt_place::named;
 use dt_source::MAX_SOURCE_LEN;
-use dt_trace::{Around, Culprit, Trace, fragment_names, trace_source, whereabouts};
 use std::alloc::{AllocError, Global};
+
+/// Where a lexeme stands: the path of the node, and the name of the property there, by its lexeme.
+#[derive(Drop)]
+struct Around {
+    path: Vec<u8>,
+    property: Option<usize>,
+}
 
 /// A text that was refused.
 #[derive(Clone, Copy)]
@@ -29,7 +38,6 @@ pub fn diagnose_source(
     alloc: Global,
     file: &[u8],
     text: &[u8],
-    symbols: bool,
     refused: Refused,
 ) -> Result<Diagnosis, AllocError> {
     let language = Language::Profile;
@@ -37,8 +45,9 @@ pub fn diagnose_source(
         language,
         file,
         text,
+        shown: text,
     };
-    case_of(origin, refused).diagnose(alloc, symbols)
+    case_of(origin, refused).diagnose(alloc)
 }
 
 /// The same of a source in dtc's language, with all that it takes in.
@@ -46,7 +55,6 @@ pub fn diagnose_dtc(
     alloc: Global,
     file: &[u8],
     text: &[u8],
-    symbols: bool,
     refused: Refused,
 ) -> Result<Diagnosis, AllocError> {
     let language = Language::Dtc;
@@ -54,23 +62,47 @@ pub fn diagnose_dtc(
         language,
         file,
         text,
+        shown: text,
     };
-    case_of(origin, refused).diagnose(alloc, symbols)
+    case_of(origin, refused).diagnose(alloc)
+}
+
+/// The same of a text in which something harmless stands in the place of other faults: the lines that are shown are the source's own.
+pub fn diagnose_draft(
+    alloc: Global,
+    file: &[u8],
+    source: SourceText<'_>,
+    draft: &[u8],
+    refused: Refused,
+) -> Result<Diagnosis, AllocError> {
+    let origin = Origin {
+        language: source.language,
+        file,
+        text: draft,
+        shown: source.text,
+    };
+    case_of(origin, refused).diagnose(alloc)
 }
 
 /// The bytes of a source in dtc's language, with all that it takes in, which are refused so; none where they aren't known.
-pub fn dtc_span(
+pub fn dtc_span(alloc: Global, text: &[u8], refused: Refused) -> Result<Option<Span>, AllocError> {
+    refused_span(alloc, Language::Dtc, text, refused)
+}
+
+/// The same of a source in either language.
+pub fn refused_span(
     alloc: Global,
+    language: Language,
     text: &[u8],
-    symbols: bool,
     refused: Refused,
 ) -> Result<Option<Span>, AllocError> {
     let origin = Origin {
-        language: Language::Dtc,
+        language,
         file: b"",
         text,
+        shown: text,
     };
-    match case_of(origin, refused).mark(alloc, symbols)? {
+    match case_of(origin, refused).mark(alloc)? {
         Some(mark) => Ok(Some(mark.span)),
         None => Ok(None),
     }
@@ -86,7 +118,7 @@ fn case_of<'a>(origin: Origin<'a>, refused: Refused) -> Case<'a> {
 }
 
 impl<'a> Case<'a> {
-    fn diagnose(&self, alloc: Global, symbols: bool) -> Result<Diagnosis, AllocError> {
+    fn diagnose(&self, alloc: Global) -> Result<Diagnosis, AllocError> {
         let (text, language) = (self.origin.text, self.origin.language);
         if text.len() > MAX_SOURCE_LEN {
             return self.whole(alloc);
@@ -94,44 +126,31 @@ impl<'a> Case<'a> {
         let (lexemes, broken) = scan_front(alloc, text, language)?;
         match self.number {
             10..=16 => self.spelling(alloc, lexemes.as_slice(), broken),
-            20..=28 => self.meaning(alloc, lexemes.as_slice(), symbols),
+            20..=28 => self.meaning(alloc, lexemes.as_slice()),
             38 => of_file_with(alloc, self.origin.file, 38, "its blob would have more"),
             _ => self.whole(alloc),
         }
     }
 
     // The bytes that are refused.
-    fn mark(&self, alloc: Global, symbols: bool) -> Result<Option<Mark<'a>>, AllocError> {
+    fn mark(&self, alloc: Global) -> Result<Option<Mark<'a>>, AllocError> {
         let (text, language) = (self.origin.text, self.origin.language);
+        let Some(offset) = self.offset else {
+            return Ok(None);
+        };
         if text.len() > MAX_SOURCE_LEN {
             return Ok(None);
         }
         let (lexemes, broken) = scan_front(alloc, text, language)?;
         let lexemes = lexemes.as_slice();
+        let stop = stop_at(lexemes, offset);
         match self.number {
-            10..=16 => match self.offset {
-                Some(offset) => {
-                    let stop = stop_at(lexemes, offset);
-                    Ok(mark_stopped(self.origin, self.number, lexemes, broken, stop))
-                }
-                None => Ok(None),
-            },
-            _ => self.mark_of_meaning(alloc, lexemes, symbols),
-        }
-    }
-
-    fn mark_of_meaning(
-        &self,
-        alloc: Global,
-        lexemes: &[Lexeme],
-        symbols: bool,
-    ) -> Result<Option<Mark<'a>>, AllocError> {
-        let (text, language) = (self.origin.text, self.origin.language);
-        let fragments = fragment_names(alloc, lexemes)?;
-        let names = fragments.as_slice();
-        match trace_source(alloc, language, text, lexemes, names, symbols)? {
-            Some(trace) if trace.culprit.fault as u8 == self.number => {
-                Ok(mark_traced(text, lexemes, &trace.culprit))
+            10..=16 => Ok(mark_stopped(self.origin, self.number, lexemes, broken, stop)),
+            20..=28 => {
+                let fragments = fragment_names(alloc, lexemes)?;
+                let reading = self.reading(lexemes, fragments.as_slice());
+                let meeting = reading.met(alloc, self.number, stop.index)?;
+                Ok(mark_met(text, self.number, lexemes, meeting))
             }
             _ => Ok(None),
         }
@@ -182,7 +201,6 @@ impl<'a> Case<'a> {
         lexemes: &[Lexeme],
         broken: Option<u32>,
     ) -> Result<Diagnosis, AllocError> {
-        let (text, language) = (self.origin.text, self.origin.language);
         let Some(offset) = self.offset else {
             return self.whole(alloc);
         };
@@ -192,13 +210,12 @@ impl<'a> Case<'a> {
             origin: self.origin,
             lexemes,
             index: stop.index,
-            start: start_of(text, lexemes, broken, stop.index),
+            start: start_of(self.origin.text, lexemes, broken, stop.index),
             bracket: kind_of(lexemes, innermost(alloc, before)?),
         };
         let refused = mark_stopped(self.origin, self.number, lexemes, broken, stop);
         let mut diagnosis = self.stopped(alloc, halt, refused)?;
-        let fragments = fragment_names(alloc, lexemes)?;
-        let around = whereabouts(alloc, language, text, before, fragments.as_slice())?;
+        let around = self.around(alloc, lexemes, stop.index)?;
         self.add_around(alloc, &mut diagnosis, &around, lexemes)?;
         if broken.is_none() {
             self.add_unclosed(alloc, &mut diagnosis, halt)?;
@@ -276,6 +293,22 @@ impl<'a> Case<'a> {
         Ok(())
     }
 
+    fn around(
+        &self,
+        alloc: Global,
+        lexemes: &[Lexeme],
+        index: usize,
+    ) -> Result<Around, AllocError> {
+        let fragments = fragment_names(alloc, lexemes)?;
+        let bodies = self
+            .reading(lexemes, fragments.as_slice())
+            .before(alloc, index)?;
+        Ok(Around {
+            path: bodies.path()?,
+            property: bodies.property,
+        })
+    }
+
     fn add_around(
         &self,
         alloc: Global,
@@ -299,37 +332,68 @@ impl<'a> Case<'a> {
 
     // ---- 20 to 28
 
-    fn meaning(
-        &self,
-        alloc: Global,
-        lexemes: &[Lexeme],
-        symbols: bool,
-    ) -> Result<Diagnosis, AllocError> {
-        let (text, language) = (self.origin.text, self.origin.language);
+    fn meaning(&self, alloc: Global, lexemes: &[Lexeme]) -> Result<Diagnosis, AllocError> {
+        let Some(index) = self.index_in(lexemes) else {
+            return self.whole(alloc);
+        };
         let fragments = fragment_names(alloc, lexemes)?;
-        let names = fragments.as_slice();
-        match trace_source(alloc, language, text, lexemes, names, symbols)? {
-            Some(trace) if trace.culprit.fault as u8 == self.number => {
-                self.traced(alloc, lexemes, &trace)
+        let reading = self.reading(lexemes, fragments.as_slice());
+        let meeting = reading.met(alloc, self.number, index)?;
+        let mark = mark_met(self.origin.text, self.number, lexemes, meeting);
+        let mut diagnosis = self.marked(alloc, mark)?;
+        let bodies = reading.before(alloc, meeting.lexeme)?;
+        let around = Around {
+            path: bodies.path()?,
+            property: match self.number {
+                23 | 24 | 28 if reading.is_property(index) => Some(index),
+                _ => bodies.property,
+            },
+        };
+        self.add_around(alloc, &mut diagnosis, &around, lexemes)?;
+        self.add_other(alloc, &mut diagnosis, lexemes, meeting)?;
+        match self.number {
+            20 => self.add_alike(alloc, &mut diagnosis, reading, index)?,
+            25 => self.add_dtc(alloc, &mut diagnosis, reading, index)?,
+            27 => {
+                let words = self.kept_or_barred(lexemes, index, &around);
+                diagnosis.notes.push(Note::Words(words))?;
             }
-            _ => self.whole(alloc),
+            _ => {}
+        }
+        Ok(diagnosis)
+    }
+
+    // The lexeme in which the fault's byte is.
+    fn index_in(&self, lexemes: &[Lexeme]) -> Option<usize> {
+        let index = stop_at(lexemes, self.offset?).index;
+        if index < lexemes.len() {
+            Some(index)
+        } else {
+            None
         }
     }
 
-    fn traced(
+    fn reading<'t>(&self, lexemes: &'t [Lexeme], fragments: &'t [Vec<u8>]) -> Reading<'t>
+    where
+        'a: 't,
+    {
+        Reading {
+            language: self.origin.language,
+            text: self.origin.text,
+            lexemes,
+            fragments,
+        }
+    }
+
+    // What the fault meets.
+    fn add_other(
         &self,
         alloc: Global,
+        diagnosis: &mut Diagnosis,
         lexemes: &[Lexeme],
-        trace: &Trace<'_>,
-    ) -> Result<Diagnosis, AllocError> {
-        let culprit = &trace.culprit;
-        let Some(lexeme) = lexemes.get(culprit.lexeme).copied() else {
-            return self.whole(alloc);
-        };
-        let mark = mark_traced(self.origin.text, lexemes, culprit);
-        let mut diagnosis = self.marked(alloc, mark)?;
-        self.add_around(alloc, &mut diagnosis, &trace.around, lexemes)?;
-        if let Some(other) = culprit.other {
+        meeting: Meeting,
+    ) -> Result<(), AllocError> {
+        if let Some(other) = meeting.other {
             let location = self.location_of(alloc, lexemes, other)?;
             let note = match diagnosis.kind {
                 Subject::Deleted => Note::Deleted(location),
@@ -337,46 +401,61 @@ impl<'a> Case<'a> {
             };
             diagnosis.notes.push(note)?;
         }
-        let name = named(self.origin.text, lexeme);
-        if self.number == 25 && self.is_dtc(alloc)? {
+        Ok(())
+    }
+
+    // Labels that are spelled alike: of a reference in a value any, of an item's those before it.
+    fn add_alike(
+        &self,
+        alloc: Global,
+        diagnosis: &mut Diagnosis,
+        reading: Reading<'_>,
+        index: usize,
+    ) -> Result<(), AllocError> {
+        let before = reading.before(alloc, index)?;
+        let bodies = match before.property {
+            Some(_) => reading.whole(alloc)?,
+            None => before,
+        };
+        let labels = bodies.standing_labels()?;
+        let names = nearest(alloc, diagnosis.subject.as_slice(), labels.as_slice())?;
+        add_labels(&mut diagnosis.notes, names)
+    }
+
+    fn add_dtc(
+        &self,
+        alloc: Global,
+        diagnosis: &mut Diagnosis,
+        reading: Reading<'_>,
+        index: usize,
+    ) -> Result<(), AllocError> {
+        if self.origin.language == Language::Profile && reading.is_dtc(alloc, index)? {
             let words = "dtc's language takes that in a body that extends a node: `--dtc` reads it";
             diagnosis.notes.push(Note::Words(words))?;
         }
-        if self.number == 27 {
-            let words = match lexeme.kind {
-                Kind::Name => kept_for(name),
-                _ => barred(culprit),
-            };
-            diagnosis.notes.push(Note::Words(words))?;
+        Ok(())
+    }
+
+    // Why a name or a reference can't stand where it does.
+    fn kept_or_barred(&self, lexemes: &[Lexeme], index: usize, around: &Around) -> &'static str {
+        match lexemes.get(index) {
+            Some(lexeme) if lexeme.kind == Kind::Name => kept_for(named(self.origin.text, *lexeme)),
+            _ if around.property.is_some() => {
+                "the compiler writes this node, so cells can't refer to it"
+            }
+            _ if is_deleted(lexemes, index) => "the root can't be deleted",
+            _ => "a child of the root has the name of the fragment that this makes",
         }
-        if self.number == 20 {
-            let names = nearest(alloc, name, trace.labels.as_slice())?;
-            add_labels(&mut diagnosis.notes, names)?;
-        }
-        Ok(diagnosis)
     }
 }
 
-impl<'a> Case<'a> {
-    // Whether a text of the profile has no fault of edits or references by the rules of dtc's language.
-    fn is_dtc(&self, alloc: Global) -> Result<bool, AllocError> {
-        if self.origin.language == Language::Dtc {
-            return Ok(false);
-        }
-        let (text, language) = (self.origin.text, Language::Dtc);
-        if text.len() > MAX_SOURCE_LEN {
-            return Ok(false);
-        }
-        let (lexemes, _) = scan_front(alloc, text, language)?;
-        let lexemes = lexemes.as_slice();
-        let fragments = fragment_names(alloc, lexemes)?;
-        let found = trace_source(alloc, language, text, lexemes, fragments.as_slice(), false)?;
-        Ok(found.is_none())
-    }
-}
-
-// The first byte of the lexeme at which reading stops, or of what is none.
-fn start_of(text: &[u8], lexemes: &[Lexeme], broken: Option<u32>, index: usize) -> usize {
+/// The first byte of the lexeme at which reading stops, or of what is none.
+pub(crate) fn start_of(
+    text: &[u8],
+    lexemes: &[Lexeme],
+    broken: Option<u32>,
+    index: usize,
+) -> usize {
     match (lexemes.get(index), broken) {
         (Some(lexeme), _) => lexeme.start as usize,
         (None, Some(broken)) => broken as usize,
@@ -384,12 +463,13 @@ fn start_of(text: &[u8], lexemes: &[Lexeme], broken: Option<u32>, index: usize) 
     }
 }
 
-fn kind_of(lexemes: &[Lexeme], index: Option<usize>) -> Option<Kind> {
+/// The kind of the lexeme of this index.
+pub(crate) fn kind_of(lexemes: &[Lexeme], index: Option<usize>) -> Option<Kind> {
     Some(lexemes.get(index?)?.kind)
 }
 
-// Whether an item of the text stands where a statement of a body begins.
-fn is_item(halt: Halt<'_>) -> bool {
+/// Whether an item of the text stands where a statement of a body begins.
+pub(crate) fn is_item(halt: Halt<'_>) -> bool {
     match halt.lexemes.get(halt.index) {
         Some(lexeme) => {
             begins_statement(halt)
@@ -412,16 +492,5 @@ fn kept_for(name: &[u8]) -> &'static str {
         "the places of a plugin's own phandles are written there"
     } else {
         "the compiler names the fragments of a plugin so"
-    }
-}
-
-// Why a reference can't stand where it does.
-fn barred(culprit: &Culprit) -> &'static str {
-    if culprit.property.is_some() {
-        "the compiler writes this node, so cells can't refer to it"
-    } else if culprit.other.is_some() {
-        "a child of the root has the name of the fragment that this makes"
-    } else {
-        "the root can't be deleted"
     }
 }

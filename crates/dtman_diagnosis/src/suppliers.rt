@@ -1,51 +1,44 @@
 //! Refusals of plans of trees.
 
 use crate::blobs::of_file;
+use crate::device_rows::DeviceRows;
 use crate::diagnosis::{Diagnosis, Note, copied};
+use bus_drivers::{Culprit, Entry, Form};
 use bus_plan::MAX_DEVICES;
-use bus_trace::{Culprit, Entry, Provider, Reason, Trace, trace_plan};
 use dt_blob::read;
-use dt_tree::Tree;
+use dt_tree::{Tree, cell_in};
 use std::alloc::{AllocError, Global};
+use trace_paths::path_of;
 
-/// What a plan refuses by this number, 54 to 56, of the blob in the file of this name.
+/// What a plan refuses by this number, 54 to 56, of the blob in the file of this name; and of which property, as the fault tells it.
 pub fn diagnose_plan(
     alloc: Global,
     file: &[u8],
     blob: &[u8],
     number: u8,
+    culprit: Option<Culprit>,
 ) -> Result<Diagnosis, AllocError> {
     match read(alloc, blob) {
-        Ok(tree) => of_tree(alloc, file, &tree, number),
+        Ok(tree) => of_tree(alloc, file, &tree, number, culprit),
         Err(_) => of_file(alloc, file, number),
     }
 }
 
-fn of_tree(alloc: Global, file: &[u8], tree: &Tree, number: u8) -> Result<Diagnosis, AllocError> {
+fn of_tree(
+    alloc: Global,
+    file: &[u8],
+    tree: &Tree,
+    number: u8,
+    culprit: Option<Culprit>,
+) -> Result<Diagnosis, AllocError> {
     let mut diagnosis = of_file(alloc, file, number)?;
-    if let Some(trace) = trace_plan(alloc, tree)? {
-        if trace.fault() as u8 == number {
-            add_trace(alloc, &mut diagnosis.notes, &trace)?;
-        }
+    let rows = DeviceRows::of(alloc, tree)?;
+    match culprit {
+        Some(culprit) => add_culprit(alloc, &mut diagnosis.notes, &rows, culprit)?,
+        None if number == 56 => add_devices(&mut diagnosis.notes, rows.devices())?,
+        None => {}
     }
     Ok(diagnosis)
-}
-
-fn add_trace(alloc: Global, notes: &mut Vec<Note>, trace: &Trace<'_>) -> Result<(), AllocError> {
-    match trace {
-        Trace::Devices(devices) => add_devices(notes, *devices),
-        Trace::Property {
-            culprit,
-            device,
-            provider,
-        } => {
-            notes.push(Note::In {
-                path: copied(alloc, device.as_slice())?,
-                property: Some(copied(alloc, culprit.property)?),
-            })?;
-            add_reason(alloc, notes, culprit, provider)
-        }
-    }
 }
 
 /// Tells how many devices there are, and how many there can be.
@@ -57,53 +50,89 @@ pub(crate) fn add_devices(notes: &mut Vec<Note>, devices: usize) -> Result<(), A
     Ok(())
 }
 
-fn add_reason(
+// Tells of the property that can't be read, and of what in it.
+fn add_culprit(
     alloc: Global,
     notes: &mut Vec<Note>,
-    culprit: &Culprit<'_>,
-    provider: &Option<Vec<u8>>,
+    rows: &DeviceRows<'_>,
+    culprit: Culprit,
 ) -> Result<(), AllocError> {
-    match culprit.reason {
-        Reason::Cells => add_length(notes, culprit.length, "cells have four bytes each"),
-        Reason::OnePhandle => add_length(notes, culprit.length, "one phandle has four bytes"),
-        Reason::Dangling(entry) => add_entry(notes, entry),
-        Reason::Specifier(entry, counted) => {
-            add_entry(notes, entry)?;
-            add_provider(alloc, notes, counted, provider)
-        }
+    let Some(device) = rows.device(culprit.device) else {
+        return Ok(());
+    };
+    let Some(property) = rows.property(device, culprit.property) else {
+        return Ok(());
+    };
+    let (name, value) = (property.name.as_bytes(), property.value.as_slice());
+    notes.push(Note::In {
+        path: path_of(alloc, rows, device)?,
+        property: Some(copied(alloc, name)?),
+    })?;
+    match (Form::of(name), culprit.entry) {
+        (Some(form), Some(entry)) => add_entry(alloc, notes, rows, form, value, entry),
+        (Some(form), None) => add_length(notes, form, value.len()),
+        (None, _) => Ok(()),
     }
 }
 
-fn add_length(notes: &mut Vec<Note>, length: usize, words: &'static str) -> Result<(), AllocError> {
+// A value of this form can't have so many bytes.
+fn add_length(notes: &mut Vec<Note>, form: Form, length: usize) -> Result<(), AllocError> {
     notes.push(Note::Length(length))?;
-    notes.push(Note::Words(words))?;
+    notes.push(Note::Words(match form {
+        Form::Single => "one phandle has four bytes",
+        _ => "cells have four bytes each",
+    }))?;
     Ok(())
 }
 
-fn add_entry(notes: &mut Vec<Note>, entry: Entry) -> Result<(), AllocError> {
+// An entry, and where its phandle leads to a node, what that wants.
+fn add_entry(
+    alloc: Global,
+    notes: &mut Vec<Note>,
+    rows: &DeviceRows<'_>,
+    form: Form,
+    value: &[u8],
+    entry: Entry,
+) -> Result<(), AllocError> {
+    let Some([a, b, c, d, behind @ ..]) = value.get(entry.offset..) else {
+        return Ok(());
+    };
+    let phandle = u32::from_be_bytes([*a, *b, *c, *d]);
     notes.push(Note::Entry {
         entry: entry.number,
-        phandle: entry.phandle,
+        phandle,
     })?;
-    Ok(())
+    match (form, rows.with_phandle(phandle)) {
+        (Form::Counted(name), Some(provider)) => {
+            add_provider(alloc, notes, rows, provider, name, behind.len() / 4)
+        }
+        _ => Ok(()),
+    }
 }
 
+// How many cells a provider wants by its property of this name, and how many are left.
 fn add_provider(
     alloc: Global,
     notes: &mut Vec<Note>,
-    counted: Provider,
-    path: &Option<Vec<u8>>,
+    rows: &DeviceRows<'_>,
+    provider: usize,
+    name: &'static [u8],
+    left: usize,
 ) -> Result<(), AllocError> {
-    let Some(path) = path else {
+    let Some(node) = rows.node(provider) else {
         return Ok(());
     };
+    let count = match node.value(name) {
+        Some(value) => cell_in(value.as_slice()),
+        None => None,
+    };
     notes.push(Note::Cells {
-        path: copied(alloc, path.as_slice())?,
-        name: counted.name,
-        count: counted.count,
+        path: path_of(alloc, rows, provider)?,
+        name,
+        count,
     })?;
-    if counted.count.is_some() {
-        notes.push(Note::Left(counted.left))?;
+    if count.is_some() {
+        notes.push(Note::Left(left))?;
     }
     Ok(())
 }

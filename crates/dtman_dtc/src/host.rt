@@ -2,6 +2,8 @@
 
 use crate::layout::Texts;
 use dt_include::{Binary, Span};
+use dt_making::Places;
+use dt_tree::Tree;
 use std::alloc::Global;
 use std::hash::RandomState;
 
@@ -66,9 +68,17 @@ pub struct Compilation {
     pub boot_processor: Option<u32>,
 }
 
+/// A blob, the tree that it holds, and where the text of its source has that tree's nodes and properties.
+#[derive(Drop)]
+pub struct Compiled {
+    pub blob: Vec<u8>,
+    pub tree: Tree,
+    pub places: Places,
+}
+
 /// What makes blobs of sources, texts and copies of blobs, and one blob of two.
 pub trait Compiler {
-    /// The blob of a text in dtc's language, with all that it takes in, and the files that its `/incbin/`s name.
+    /// What a text in dtc's language comes to, with all that it takes in, and the files that its `/incbin/`s name.
     fn compile(
         &mut self,
         alloc: Global,
@@ -76,7 +86,19 @@ pub trait Compiler {
         text: &[u8],
         binaries: Vec<Binary>,
         compilation: Compilation,
-    ) -> Result<Vec<u8>, Fault>;
+    ) -> Result<Compiled, Fault>;
+
+    /// What else is refused of a text that was refused so, in the order of the text; nothing where that isn't known.
+    fn further(
+        &mut self,
+        alloc: Global,
+        _hasher: RandomState,
+        _text: &[u8],
+        _compilation: Compilation,
+        _first: Fault,
+    ) -> Vec<Fault> {
+        Vec::new(alloc)
+    }
 
     /// The source of a blob in dtc's layout.
     fn dump(&mut self, alloc: Global, blob: &[u8], texts: Texts) -> Result<Vec<u8>, Fault>;

@@ -19,8 +19,7 @@ mod searching;
 mod source_layout;
 mod wording;
 
-pub use checking::run_check;
-pub use host::{Compilation, Compiler, Entry, EntryKind, Fault, Host, Unread, Unwritten};
+pub use host::{Compilation, Compiled, Compiler, Entry, EntryKind, Fault, Host, Unread, Unwritten};
 pub use layout::{Texts, layout_bytes};
 pub use options::{Asked, BadWord, Format, Options, Order, Output, Room, read_words};
 pub use overlaying::run_fdtoverlay;

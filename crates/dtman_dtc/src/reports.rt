@@ -21,8 +21,6 @@ pub(crate) enum Failure<'a> {
     Incomplete(Incomplete),
     /// It was said already what is wrong, and in what.
     Said(Wrong),
-    /// This line of a file is none of a reference set.
-    NoReference(&'a str, usize),
     /// An overlay that doesn't fit; why was said already.
     NotApplied(&'a str),
     /// A blob over 2^32 bytes.
@@ -73,6 +71,26 @@ pub(crate) fn report_source<H: Host>(
         Err(_) => return Failure::NoMemory,
     };
     said(wrong, report_at(alloc, host, Some(at), told))
+}
+
+/// Says what else is refused of it, and answers with the failure that ends the run: one of the source's words comes before one of the
+/// tree that they make.
+pub(crate) fn report_further<H: Host>(
+    alloc: Global,
+    host: &mut H,
+    file: &[u8],
+    text: &[u8],
+    first: Failure<'static>,
+    further: &[Fault],
+) -> Failure<'static> {
+    let mut failure = first;
+    for fault in further {
+        let told = report_source(alloc, host, file, text, fault);
+        if matches!(told, Failure::Said(Wrong::Text)) {
+            failure = told;
+        }
+    }
+    failure
 }
 
 /// The user's place of bytes of a text.
@@ -274,9 +292,6 @@ fn words_of(alloc: Global, failure: &Failure<'_>) -> Result<String, AllocError> 
         }
         Failure::Said(Wrong::Tree) => format!(in alloc; "ERROR: Input tree has errors, aborting\n"),
         Failure::NotApplied(path) => format!(in alloc; "Failed to apply '{path}'\n"),
-        Failure::NoReference(path, line) => format!(in alloc;
-            "FATAL ERROR: {path}:{line}: no line of a reference set: a compatible, a tab and a property\n"
-        ),
         Failure::TooLong => format!(in alloc; "FATAL ERROR: error 38 TooLarge\n"),
     }
 }

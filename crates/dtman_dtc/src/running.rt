@@ -3,12 +3,14 @@
 use crate::blob::{set_boot_cpu, with_room};
 use crate::checking::checked;
 use crate::folder_tree::folder_blob;
-use crate::host::{Compilation, Compiler, Host};
+use crate::host::{Compilation, Compiled, Compiler, Host};
 use crate::layout::Texts;
 use crate::options::{Asked, Format, Options, Order, Output, format_named, read_words};
-use crate::reports::{Failure, fail, report_fault, report_shortfall, report_source};
+use crate::reports::{
+    Failure, fail, report_fault, report_further, report_shortfall, report_source,
+};
 use crate::searching::Searching;
-use crate::source_layout::{Source, source_text};
+use crate::source_layout::{Placed, Source, source_text};
 use dt_blob::BlobError;
 use dt_include::{Whole, included, plain};
 use std::alloc::Global;
@@ -101,35 +103,25 @@ fn convert<'a, H: Host, C: Compiler>(
         .unwrap_or(Output::Holds(wanted(options.output, from)));
     let mut found = Vec::new(alloc);
     let made = taken(alloc, host, compiler, options, given, to, &mut found)?;
-    checked(
-        alloc,
-        host,
-        options,
-        from,
-        made.blob.as_slice(),
-        made.text.as_slice(),
-    )?;
+    checked(alloc, host, options, &made)?;
     let Made {
         blob,
         text,
+        placed,
         labelled,
     } = made;
     let blob = ordered(alloc, host, compiler, options, blob)?;
-    let source = Source {
-        text: text.as_slice(),
-        labelled: labelled.as_slice(),
+    let source = match &placed {
+        Some(placed) => Some(Source {
+            text: text.as_slice(),
+            placed,
+            labelled: labelled.as_slice(),
+        }),
+        None => None,
     };
     let output = match to {
         Output::Holds(Format::Dts) => {
-            printed(
-                alloc,
-                host,
-                compiler,
-                options,
-                from,
-                blob.as_slice(),
-                source,
-            )?
+            printed(alloc, host, compiler, options, blob.as_slice(), source)?
         }
         Output::Holds(_) => widened(alloc, host, options, blob.as_slice())?,
         Output::Nothing => return put_found(alloc, host, options, found.as_slice()),
@@ -171,13 +163,13 @@ fn taken<H: Host, C: Compiler>(
 
 /// What was given: what it is, and its bytes; those of its blob where it is a folder.
 #[derive(Drop)]
-pub(crate) struct Given {
-    pub(crate) from: Format,
-    pub(crate) bytes: Vec<u8>,
+struct Given {
+    from: Format,
+    bytes: Vec<u8>,
 }
 
 /// What the command line names as input.
-pub(crate) fn input_of<'a, H: Host>(
+fn input_of<'a, H: Host>(
     alloc: Global,
     host: &mut H,
     options: &Options<'a>,
@@ -209,7 +201,7 @@ fn booted(blob: Vec<u8>, options: &Options<'_>) -> Vec<u8> {
 }
 
 /// What an input is: a blob where its bytes begin as one, else what its name says, else a source.
-pub(crate) fn guessed(path: &str, bytes: &[u8]) -> Format {
+fn guessed(path: &str, bytes: &[u8]) -> Format {
     match bytes {
         [0xd0, 0x0d, 0xfe, 0xed, ..] => Format::Dtb,
         _ => format_named(path).unwrap_or(Format::Dts),
@@ -231,21 +223,24 @@ pub(crate) struct Made {
     pub blob: Vec<u8>,
     /// No bytes where there is none.
     pub text: Vec<u8>,
+    /// The blob's tree, where it was made of a source.
+    pub placed: Option<Placed>,
     /// The blob with the paths of all labelled nodes, where these are asked for and can be told.
     pub labelled: Vec<u8>,
 }
 
 /// A blob that was made of no source.
-pub(crate) fn of_blob(alloc: Global, blob: Vec<u8>) -> Made {
+fn of_blob(alloc: Global, blob: Vec<u8>) -> Made {
     Made {
         blob,
         text: Vec::new(alloc),
+        placed: None,
         labelled: Vec::new(alloc),
     }
 }
 
 /// The blob of a source, with the processor that boots.
-pub(crate) fn compiled<H: Host, C: Compiler>(
+fn compiled<H: Host, C: Compiler>(
     alloc: Global,
     host: &mut H,
     compiler: &mut C,
@@ -263,12 +258,18 @@ pub(crate) fn compiled<H: Host, C: Compiler>(
         boot_processor: options.boot_cpu,
     };
     match compiler.compile(alloc, hasher, text.as_slice(), binaries, compilation) {
-        Ok(blob) => Ok(Made {
+        Ok(Compiled { blob, tree, places }) => Ok(Made {
             blob,
             text,
+            placed: Some(Placed { tree, places }),
             labelled: Vec::new(alloc),
         }),
-        Err(fault) => Err(report_source(alloc, host, file, text.as_slice(), &fault)),
+        Err(fault) => {
+            let text = text.as_slice();
+            let further = compiler.further(alloc, hasher, text, compilation, fault);
+            let first = report_source(alloc, host, file, text, &fault);
+            Err(report_further(alloc, host, file, text, first, further.as_slice()))
+        }
     }
 }
 
@@ -345,11 +346,17 @@ fn compiled_to<H: Host, C: Compiler>(
     if to != Output::Holds(Format::Dts) {
         return Ok(made);
     }
-    let Made { blob, text, .. } = made;
+    let Made {
+        blob,
+        text,
+        placed,
+        ..
+    } = made;
     let labelled = labelled(alloc, host, compiler, options, source)?;
     Ok(Made {
         blob,
         text,
+        placed,
         labelled,
     })
 }
@@ -373,7 +380,7 @@ fn labelled<H: Host, C: Compiler>(
         boot_processor: None,
     };
     match compiler.compile(alloc, hasher, text.as_slice(), binaries, compilation) {
-        Ok(blob) => Ok(blob),
+        Ok(compiled) => Ok(compiled.blob),
         Err(_) => Ok(Vec::new(alloc)),
     }
 }
@@ -384,13 +391,12 @@ fn printed<H: Host, C: Compiler>(
     host: &mut H,
     compiler: &mut C,
     options: &Options<'_>,
-    from: Format,
     blob: &[u8],
-    source: Source<'_>,
+    source: Option<Source<'_>>,
 ) -> Result<Vec<u8>, Failure<'static>> {
-    if from != Format::Dts {
+    let Some(source) = source else {
         return dumped(alloc, host, compiler, options, Texts::Joined, blob);
-    }
+    };
     match source_text(alloc, blob, source) {
         Ok(text) => Ok(text),
         Err(BlobError::NoMemory) => Err(Failure::NoMemory),

@@ -7,21 +7,26 @@ use crate::marked_value::put_marked;
 use crate::markers::{Mark, Marker, Written, markers_of};
 use dt_blob::{BlobError, read};
 use dt_lexeme::{Kind, Language, Lexeme, scan_front};
-use dt_trace::{Definitions, Sought, fragment_names};
+use dt_making::Places;
 use dt_tree::{Node, Property, Tree};
 use std::alloc::{AllocError, Global};
-use std::collections::{BTreeMap, BTreeSet};
+use std::collections::BTreeMap;
 
 /// The most bytes that a source has.
 const MAX_TEXT: usize = 1 << 24;
 
-/// Of more names the values are told as those of a blob.
-const MAX_NAMES: usize = 1 << 12;
+/// The tree of a source, and where the source's text has its nodes and properties.
+#[derive(Drop)]
+pub(crate) struct Placed {
+    pub(crate) tree: Tree,
+    pub(crate) places: Places,
+}
 
-/// A source: its text with all that it takes in, and its blob with the paths of all labelled nodes.
+/// A source: its text with all that it takes in, its tree, and its blob with the paths of all labelled nodes.
 #[derive(Clone, Copy)]
 pub(crate) struct Source<'t> {
     pub(crate) text: &'t [u8],
+    pub(crate) placed: &'t Placed,
     pub(crate) labelled: &'t [u8],
 }
 
@@ -33,11 +38,19 @@ type Labels<'l> = BTreeMap<&'l [u8], Vec<&'l [u8]>>;
 struct Sketch<'t> {
     text: &'t [u8],
     lexemes: &'t [Lexeme],
-    definitions: Definitions<'t>,
-    /// The names of properties.
-    names: BTreeMap<&'t [u8], &'t [u8]>,
-    /// The paths of the nodes, each before those below it.
+    places: &'t Places,
+    /// The nodes of its tree, each before those below it, and their numbers by their paths.
+    nodes: Vec<&'t Node>,
+    numbers: BTreeMap<&'t [u8], usize>,
+    /// The paths of the nodes that are printed, each before those below it.
     paths: &'t [Vec<u8>],
+}
+
+/// What a source's tree has in a node: the node's number, and its properties by their names.
+#[derive(Drop)]
+struct Known<'t> {
+    node: usize,
+    properties: BTreeMap<&'t [u8], usize>,
 }
 
 fn add_paths(
@@ -65,28 +78,24 @@ fn paths_of(alloc: Global, root: &Node) -> Result<Vec<Vec<u8>>, AllocError> {
     Ok(paths)
 }
 
-fn add_names<'t>(names: &mut BTreeSet<&'t [u8]>, node: &'t Node) -> Result<(), AllocError> {
-    for property in node.properties() {
-        names.insert(property.name.as_bytes())?;
-    }
+fn add_nodes<'t>(nodes: &mut Vec<&'t Node>, node: &'t Node) -> Result<(), AllocError> {
+    nodes.push(node)?;
     for child in node.children() {
-        add_names(names, child)?;
+        add_nodes(nodes, child)?;
     }
     Ok(())
 }
 
-// The names of all properties, or none where they are too many.
-fn names_of(alloc: Global, root: &Node) -> Result<Vec<Vec<u8>>, AllocError> {
-    let mut found = BTreeSet::new(alloc);
-    add_names(&mut found, root)?;
-    let mut names = Vec::new(alloc);
-    if found.len() > MAX_NAMES {
-        return Ok(names);
+// The nodes' numbers by their paths.
+fn numbers_of<'t>(
+    alloc: Global,
+    paths: &'t [Vec<u8>],
+) -> Result<BTreeMap<&'t [u8], usize>, AllocError> {
+    let mut numbers = BTreeMap::new(alloc);
+    for (number, path) in paths.iter().enumerate() {
+        numbers.insert(path.as_slice(), number)?;
     }
-    for name in found.iter() {
-        names.push(Vec::from_slice(alloc, *name)?)?;
-    }
-    Ok(names)
+    Ok(numbers)
 }
 
 fn add_label<'t>(
@@ -120,18 +129,6 @@ fn labels_of<'t>(alloc: Global, tree: Option<&'t Tree>) -> Result<Labels<'t>, Al
         }
     }
     Ok(labels)
-}
-
-// The names, to be found.
-fn by_name<'t>(
-    alloc: Global,
-    names: &'t [Vec<u8>],
-) -> Result<BTreeMap<&'t [u8], &'t [u8]>, AllocError> {
-    let mut found = BTreeMap::new(alloc);
-    for name in names {
-        found.insert(name.as_slice(), name.as_slice())?;
-    }
-    Ok(found)
 }
 
 // How a value looks that nothing is known of.
@@ -207,20 +204,41 @@ impl<'t> Sketch<'t> {
         lexemes.get(lexeme.saturating_add(1)..).unwrap_or(&[])
     }
 
-    // Where a property is defined last.
-    fn definition(&self, path: &'t [u8], name: &[u8]) -> Option<usize> {
-        let name = self.names.get(name)?;
-        self.definitions.property(path, *name)
+    // What the source's tree has at a path.
+    fn known(&self, alloc: Global, path: &'t [u8]) -> Result<Option<Known<'t>>, AllocError> {
+        let Some(number) = self.numbers.get(&path).copied() else {
+            return Ok(None);
+        };
+        let Some(node) = self.nodes.get(number).copied() else {
+            return Ok(None);
+        };
+        let mut properties = BTreeMap::new(alloc);
+        for (i, property) in node.properties().iter().enumerate() {
+            properties.insert(property.name.as_bytes(), i)?;
+        }
+        Ok(Some(Known {
+            node: number,
+            properties,
+        }))
+    }
+
+    // The name of a property where it is defined last.
+    fn definition(&self, known: Option<&Known<'t>>, name: &[u8]) -> Option<usize> {
+        let known = known?;
+        let property = known.properties.get(name)?;
+        let offset = self.places.property(known.node, *property)?;
+        Some(self.lexemes.partition_point(|lexeme| lexeme.end <= offset))
     }
 
     fn markers(
         &self,
         alloc: Global,
         path: &'t [u8],
+        name: Option<usize>,
         property: &Property,
     ) -> Result<Vec<Marker<'t>>, AllocError> {
         let value = property.value.as_slice();
-        let Some(name) = self.definition(path, property.name.as_bytes()) else {
+        let Some(name) = name else {
             return unsaid(alloc, path, property);
         };
         match markers_of(alloc, self.text, self.behind(name), value)? {
@@ -253,16 +271,18 @@ impl<'t> Sketch<'t> {
         alloc: Global,
         layout: &mut Layout,
         path: &'t [u8],
+        known: Option<&Known<'t>>,
         property: &Property,
     ) -> Result<(), AllocError> {
         let name = property.name.as_bytes();
-        if let Some(lexeme) = self.definition(path, name) {
+        let definition = self.definition(known, name);
+        if let Some(lexeme) = definition {
             self.put_labels_before(layout, lexeme)?;
         }
         layout.put(name)?;
         let value = property.value.as_slice();
         if !value.is_empty() {
-            let markers = self.markers(alloc, path, property)?;
+            let markers = self.markers(alloc, path, definition, property)?;
             layout.put(b" =")?;
             put_marked(alloc, layout, value, markers.as_slice())?;
         }
@@ -298,10 +318,10 @@ impl<'t> Printing<'_, 't, '_, '_> {
         node: &Node,
         depth: usize,
     ) -> Result<(), AllocError> {
+        let known = self.sketch.known(self.alloc, path)?;
         for property in node.properties() {
             self.layout.indent(depth)?;
-            self.sketch
-                .put_property(self.alloc, &mut self.layout, path, property)?;
+            self.sketch.put_property(self.alloc, &mut self.layout, path, known.as_ref(), property)?;
         }
         Ok(())
     }
@@ -361,20 +381,24 @@ fn tree_of(alloc: Global, blob: &[u8]) -> Result<Option<Tree>, BlobError> {
     }
 }
 
+// What is known of a source: the paths are those of its own tree, and of the one that is printed.
 fn sketch_of<'t>(
     alloc: Global,
     text: &'t [u8],
     lexemes: &'t [Lexeme],
-    fragments: &'t [Vec<u8>],
-    names: &'t [Vec<u8>],
+    places: &'t Places,
+    root: &'t Node,
+    known: &'t [Vec<u8>],
     paths: &'t [Vec<u8>],
 ) -> Result<Sketch<'t>, AllocError> {
-    let sought = Sought { paths, names };
+    let mut nodes = Vec::new(alloc);
+    add_nodes(&mut nodes, root)?;
     Ok(Sketch {
         text,
         lexemes,
-        definitions: Definitions::of(alloc, Language::Dtc, text, lexemes, fragments, sought)?,
-        names: by_name(alloc, names)?,
+        places,
+        nodes,
+        numbers: numbers_of(alloc, known)?,
         paths,
     })
 }
@@ -388,15 +412,16 @@ pub(crate) fn source_text(
     let tree = read(alloc, blob)?;
     let labelled = tree_of(alloc, source.labelled)?;
     let lexemes = lexemes_of(alloc, source.text)?;
-    let fragments = fragment_names(alloc, lexemes.as_slice())?;
-    let names = names_of(alloc, tree.root())?;
+    let root = source.placed.tree.root();
+    let known = paths_of(alloc, root)?;
     let paths = paths_of(alloc, tree.root())?;
     let sketch = sketch_of(
         alloc,
         source.text,
         lexemes.as_slice(),
-        fragments.as_slice(),
-        names.as_slice(),
+        &source.placed.places,
+        root,
+        known.as_slice(),
         paths.as_slice(),
     )?;
     let labels = labels_of(alloc, labelled.as_ref())?;

@@ -27,11 +27,12 @@ use Rattle.dt_meaning.specs.Statements as meaning
 use Rattle.dt_resolve.specs.declared.error.BuildError.{BuildError}
 use Rattle.dt_resolve.proofs.Faults.{fault-then}
 use Rattle.dt_build.specs.BuiltByDtc.{DtcRefuses, IsDtcLonger, IsDtcTreeOf, booting}
+use Rattle.dtman_engine.specs.declared.compiling_dtc.Compiled.{Compiled}
 use Rattle.dtman_engine.specs.declared.compiling_dtc.DtcOptions.{DtcOptions}
 use Rattle.dtman_engine.specs.declared.fault.Fault.{Fault}
 use Rattle.dt_source.specs.Places.{nowhere}
 use Rattle.dtman_engine.specs.CompileDtc.{AnswersFilled, IsDtcCompiled, IsDtcRefusal, SaysWith, dtc_meant, lacking, processor_of}
-use Rattle.dtman_engine.specs.Fault.{Answer, FaultValue, fault_value, no_memory}
+use Rattle.dtman_engine.specs.Fault.{FaultValue, fault_value, no_memory}
 use Rattle.dtman_engine.specs.Limits.{blob_limit, IsShort}
 use Rattle.dtman_engine.specs.Meant.{CannotBuild, HasLongBlob}
 use Rattle.dtman_engine.specs.Private.CompilingDtc.{TellsLack, boots_on}
@@ -79,11 +80,11 @@ module _ (options : DtcOptions) (m : Meaning) where
       let on = booted options.boot_processor t made of same in
       meant-on of.lists on.0 of.resolves on.1 ∙ ap (λ x. Ok x) (sym on.2)
 
-  pub refused : (e : BuildError) (fault : FaultValue) → fault ≡ build_fault e → DtcRefuses options.symbols m e → CannotBuild (dtc_meant options m) fault
+  pub refused : (e : BuildError) (fault : FaultValue) → fault ≡ build_fault e.kind → DtcRefuses options.symbols m e → CannotBuild (dtc_meant options m) fault
   refused e fault told refuses = inr (inl (record {
-    error = e;
+    error = e.kind;
     told = told;
-    refuses = fault-then e (dtc_resolved options.symbols m) (λ l. then_do (processor_of options.boot_processor m) (λ k. Ok (booting k (tree_map_of m l)))) refuses;
+    refuses = fault-then e.kind (dtc_resolved options.symbols m) (λ l. then_do (processor_of options.boot_processor m) (λ k. Ok (booting k (tree_map_of m l)))) refuses;
   }))
 
 -- ---- of what a text says
@@ -100,7 +101,7 @@ module _ (options : DtcOptions) (text : List ℕ) where
     with-files : (n : Meaning) → filled files m ≡ Ok n → SaysWith text files n
     with-files n fills = record { said = m; says = says; fills = fills }
 
-    pub compiled : (q : Result Meaning Refusal) → filled files m ≡ q → (r : Answer) → AnswersFilled options text q r → IfOk r (λ blob. IsDtcCompiled options text files blob.items)
+    pub compiled : (q : Result Meaning Refusal) → filled files m ≡ q → (r : Result Compiled Fault) → AnswersFilled options text q r → IfOk r (λ made. IsDtcCompiled options text files made.blob.items)
     compiled (Ok n) fills (Ok blob) h = record { said = n; short = short; says = with-files n fills; blob_is = h }
     compiled (Ok n) fills (Err fault) h = tt
     compiled (Err refusal) fills (Ok blob) h = absurd h
@@ -110,7 +111,7 @@ module _ (options : DtcOptions) (text : List ℕ) where
     untold refusal lacks fault (inl none) = inl (record { kind = NoMemory; place = nowhere; told = none; refuses = (short, refl) })
     untold refusal lacks fault (inr told) = inr (inl (record { said = m; short = short; says = says; refusal = refusal; lacks = lacks; told = told }))
 
-    pub in-vain : (q : Result Meaning Refusal) → filled files m ≡ q → (r : Answer) → AnswersFilled options text q r → IfErr r (λ fault. IsDtcRefusal options text files (fault_value fault))
+    pub in-vain : (q : Result Meaning Refusal) → filled files m ≡ q → (r : Result Compiled Fault) → AnswersFilled options text q r → IfErr r (λ fault. IsDtcRefusal options text files (fault_value fault))
     in-vain (Ok n) fills (Ok blob) h = tt
     in-vain (Ok n) fills (Err fault) h = inr (inr (record { said = n; short = short; says = with-files n fills; cannot = h }))
     in-vain (Err refusal) fills (Ok blob) h = absurd h

@@ -1,5 +1,5 @@
 -- From what the reader and the writer answer to what a copy is.
-use Rattle.std.proofs.Common.{◌≡◌, ◌≤◌, inl, inr, ℕ, List, length, Result, Ok, Err, IfOk, IfErr, MatchResult, subst}
+use Rattle.std.proofs.Common.{◌≡◌, ◌≤◌, inr, ℕ, List, length, Result, Ok, Err, IfOk, IfErr, MatchResult}
 use Rattle.dt_tree.specs.TreeData.{TreeData}
 use Rattle.dt_blob.specs.Blob.{blob_of}
 use Rattle.dt_blob.specs.Holds.{Holds}

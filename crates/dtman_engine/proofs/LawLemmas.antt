@@ -1,5 +1,5 @@
 -- A blob comes back from its dump, by the laws of the crates below.
-use Rattle.std.proofs.Common.{◌≡◌, ◌<◌, ◌≤◌, inl, inr, ℕ, false, List, length, None, Some, Result, Ok, Err, refl, ap, ◌∙◌, subst, arith}
+use Rattle.std.proofs.Common.{◌≡◌, ◌<◌, ◌≤◌, inl, inr, ℕ, false, List, length, None, Some, refl, ap, ◌∙◌, subst}
 use Rattle.dt_lexeme.specs.declared.language.Language.TheVariants.{Profile}
 use Rattle.dt_tree.specs.PathMap.{tree_map}
 use Rattle.dt_tree.specs.TreeData.{TreeData, IsTree}
@@ -19,7 +19,7 @@ use Rattle.dtman_engine.specs.Compile.{CannotBuild, IsCompileRefusal, meant_by}
 use Rattle.dtman_engine.specs.Dump.{CannotPrint, Explains, IsDump, IsRefusal, IsUnread}
 use Rattle.dtman_engine.specs.Fault.{FaultValue, no_memory}
 use Rattle.dt_source.specs.declared.place.Place.{Place}
-use Rattle.dtman_engine.specs.SourceFaults.{build_fault, source_fault}
+use Rattle.dtman_engine.specs.SourceFaults.{source_fault}
 use Rattle.dtman_engine.specs.BlobFaults.{blob_fault}
 use Rattle.dtman_engine.specs.Laws.{CannotCompile}
 use Rattle.dtman_engine.specs.Limits.{blob_limit}

@@ -1,12 +1,11 @@
 -- A base and an overlay have one answer, but for want of memory; so has a tree that is printed.
-use Rattle.std.proofs.Common.{◌≡◌, ◌⊎◌, ◌<◌, ◌≤◌, inl, inr, ℕ, List, length, Result, Ok, refl, sym, ap, ◌∙◌, arith}
+use Rattle.std.proofs.Common.{◌≡◌, ◌⊎◌, ◌<◌, ◌≤◌, inl, inr, ℕ, List, length, Ok, refl, sym, ap, ◌∙◌, arith}
 use Rattle.dt_tree.specs.PathMap.{TreeMap}
-use Rattle.dt_tree.specs.TreeData.{TreeData, IsTree}
+use Rattle.dt_tree.specs.TreeData.{TreeData}
 use Rattle.dt_tree.proofs.MapLaws.{same_tree}
 use Rattle.dt_meaning.specs.MapOf.{map_of}
 use Rattle.dt_meaning.specs.Resolved.{Resolved}
 use Rattle.dt_overlay.specs.Applied.{applied_lists}
-use Rattle.dt_fixup.specs.declared.error.OverlayError.{OverlayError}
 use Rattle.dt_fixup.specs.declared.error.OverlayError.TheVariants as overlays
 use Rattle.dt_blob.specs.Blob.{blob_of}
 use Rattle.dt_blob.specs.SourceText.{text_of}

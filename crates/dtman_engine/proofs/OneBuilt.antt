@@ -1,10 +1,9 @@
 -- What is meant has one answer, but for want of memory.
-use Rattle.std.proofs.Common.{◌≡◌, ◌⊎◌, ◌<◌, ◌≤◌, inl, inr, ℕ, List, length, Result, Ok, refl, sym, ap, ◌∙◌, subst, arith}
+use Rattle.std.proofs.Common.{◌≡◌, ◌⊎◌, ◌<◌, ◌≤◌, inl, inr, ℕ, List, length, Ok, refl, sym, ap, ◌∙◌, subst, arith}
 use Rattle.dt_tree.specs.PathMap.{TreeMap, tree_map}
 use Rattle.dt_tree.specs.TreeData.{TreeData, IsTree}
 use Rattle.dt_tree.proofs.MapLaws.{same_tree}
-use Rattle.dt_resolve.specs.declared.error.BuildError.{BuildError}
-use Rattle.dt_resolve.specs.declared.error.BuildError.TheVariants as builds
+use Rattle.dt_resolve.specs.declared.error.BuildErrorKind.TheVariants as builds
 use Rattle.dt_blob.specs.Blob.{blob_of}
 use Rattle.dtman_engine.specs.Fault.{FaultValue, no_memory}
 use Rattle.dtman_engine.specs.Meant.{CannotBuild, HasLongBlob, IsBlobOf, MeansNone, Meant}

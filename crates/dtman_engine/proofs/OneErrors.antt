@@ -1,8 +1,8 @@
 -- A meaning has one error that tells its fault, but for want of memory.
 use Rattle.std.proofs.Common.{◌≡◌, ◌⊎◌, inl, inr, Option, Some, None, Result, Ok, Err, refl, sym, ap, ◌∙◌}
 use Rattle.dt_meaning.specs.Statements as meaning
-use Rattle.dt_resolve.specs.declared.error.BuildError.{BuildError}
-use Rattle.dt_resolve.specs.declared.error.BuildError.TheVariants as builds
+use Rattle.dt_resolve.specs.declared.error.BuildErrorKind.{BuildErrorKind}
+use Rattle.dt_resolve.specs.declared.error.BuildErrorKind.TheVariants as builds
 use Rattle.dt_resolve.specs.BuildFault as build
 use Rattle.dt_overlay_meaning.specs.Fault as applied
 use Rattle.dt_fixup.specs.declared.error.OverlayError.{OverlayError}
@@ -30,7 +30,7 @@ module _ {E : Type 0} (none : E) (told : Option E) where
   none-of x untold (inr is) = absurd (not-none x (is ∙ untold))
 
 -- ---- of a source
-abbrev build_error : meaning.Fault → BuildError
+abbrev build_error : meaning.Fault → BuildErrorKind
 build_error meaning.UnknownLabel = builds.UnknownLabel
 build_error meaning.DuplicateLabel = builds.DuplicateLabel
 build_error meaning.UnknownPath = builds.UnknownPath
@@ -41,11 +41,11 @@ build_error meaning.PathInPlugin = builds.PathInPlugin
 build_error meaning.ReservedName = builds.ReservedName
 build_error meaning.TooDeep = builds.TooDeep
 
-abbrev build_error_in : {A : Type 0} → Result A meaning.Fault → Option BuildError
+abbrev build_error_in : {A : Type 0} → Result A meaning.Fault → Option BuildErrorKind
 build_error_in (Ok a) = None
 build_error_in (Err fault) = Some (build_error fault)
 
-built : {A : Type 0} (r : Result A meaning.Fault) (e : BuildError) → build.IsFault e r → (e ≡ builds.NoMemory) ⊎ (Some e ≡ build_error_in r)
+built : {A : Type 0} (r : Result A meaning.Fault) (e : BuildErrorKind) → build.IsFault e r → (e ≡ builds.NoMemory) ⊎ (Some e ≡ build_error_in r)
 built r builds.NoMemory is = inl refl
 built r builds.UnknownLabel is = inr (sym (ap build_error_in is))
 built r builds.DuplicateLabel is = inr (sym (ap build_error_in is))
@@ -57,11 +57,11 @@ built r builds.PathInPlugin is = inr (sym (ap build_error_in is))
 built r builds.ReservedName is = inr (sym (ap build_error_in is))
 built r builds.TooDeep is = inr (sym (ap build_error_in is))
 
-pub one-built : {A : Type 0} (r : Result A meaning.Fault) (x y : BuildError) → build.IsFault x r → build.IsFault y r → (x ≡ builds.NoMemory) ⊎ (y ≡ builds.NoMemory) ⊎ (x ≡ y)
+pub one-built : {A : Type 0} (r : Result A meaning.Fault) (x y : BuildErrorKind) → build.IsFault x r → build.IsFault y r → (x ≡ builds.NoMemory) ⊎ (y ≡ builds.NoMemory) ⊎ (x ≡ y)
 one-built r x y one other = one-of builds.NoMemory (build_error_in r) x y (built r x one) (built r y other)
 
 -- where there is a tree nothing but want of memory is told
-pub none-built : {A : Type 0} (r : Result A meaning.Fault) (a : A) (e : BuildError) → r ≡ Ok a → build.IsFault e r → e ≡ builds.NoMemory
+pub none-built : {A : Type 0} (r : Result A meaning.Fault) (a : A) (e : BuildErrorKind) → r ≡ Ok a → build.IsFault e r → e ≡ builds.NoMemory
 none-built r a e is why = none-of builds.NoMemory (build_error_in r) e (ap build_error_in is) (built r e why)
 
 -- ---- of an overlay

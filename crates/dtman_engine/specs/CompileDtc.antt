@@ -1,6 +1,6 @@
--- What `compile_dtc_bytes` answers: the blob of the tree that the source in a text in dtc's language means, with the files that its
+-- What `compile_dtc` answers: the blob of the tree that the source in a text in dtc's language means, with the files that its
 -- `/incbin/` name, or why there is none (Devicetree Specification v0.4, chapters 5 and 6; where it is silent, dtc 1.6.1).
-use Rattle.std.specs.Prelude.{◌≡◌, ◌⊎◌, ℕ, List, Option, Some, None, Result, Ok, Err, IsErrAnd}
+use Rattle.std.specs.Prelude.{◌≡◌, ◌⊎◌, ℕ, List, Option, Some, None, Result, Ok, Err, IsErrAnd, MatchResult}
 use Rattle.dt_lexeme.specs.declared.language.Language.TheVariants.{Dtc}
 use Rattle.dt_lexeme.specs.declared.lexeme.Refusal.{Refusal}
 use Rattle.dt_source.specs.Places.{place_at}
@@ -15,8 +15,10 @@ use Rattle.dt_meaning.specs.DtcResolved.{dtc_resolved}
 use Rattle.dt_meaning.specs.MapOf.{tree_map_of}
 use Rattle.dt_meaning.specs.Statements.{Fault}
 use Rattle.dt_build.specs.BuiltByDtc.{booting}
+use Rattle.dtman_engine.specs.declared.compiling_dtc.Compiled.{Compiled}
 use Rattle.dtman_engine.specs.declared.compiling_dtc.DtcOptions.{DtcOptions}
-use Rattle.dtman_engine.specs.Fault.{Answer, FaultValue, fault_value, no_memory}
+use Rattle.dtman_engine.specs.declared.fault.Fault.{Fault as Refused}
+use Rattle.dtman_engine.specs.Fault.{FaultValue, fault_value, no_memory}
 use Rattle.dtman_engine.specs.Limits.{IsShort}
 use Rattle.dtman_engine.specs.Meant as meant
 use Rattle.dtman_engine.specs.SourceFaults.{source_fault}
@@ -53,9 +55,13 @@ pub record LacksFile (text : List ℕ) (files : List Binary) (fault : FaultValue
   pub told : fault ≡ lacking text refusal
 
 -- ---- answers
+-- the answer to what is meant: its blob, or why there is none
+abbrev pub BuildsDtc : meant.Meant → Result Compiled Refused → Type 0
+BuildsDtc means given = MatchResult given (λ made. meant.IsBlobOf means made.blob.items) (λ fault. meant.CannotBuild means (fault_value fault))
+
 -- the answer to what a text says with its files: its blob, or why there is none; or the file that isn't there, unless memory is wanted
-abbrev pub AnswersFilled : DtcOptions → List ℕ → Result Meaning Refusal → Answer → Type 0
-AnswersFilled options text (Ok m) given = meant.Builds (dtc_meant options m) given
+abbrev pub AnswersFilled : DtcOptions → List ℕ → Result Meaning Refusal → Result Compiled Refused → Type 0
+AnswersFilled options text (Ok m) given = BuildsDtc (dtc_meant options m) given
 AnswersFilled options text (Err refusal) given =
     IsErrAnd given (λ fault. (fault_value fault ≡ no_memory) ⊎ (fault_value fault ≡ lacking text refusal))
 

@@ -3,7 +3,7 @@ use Rattle.std.specs.Prelude.{ℕ, List, [], ◌∷◌, ◌==◌, if◌then◌el
 use Rattle.std.specs.List.{concat}
 use Rattle.std.specs.Fmt.{decimal}
 use Rattle.dt_source.specs.declared.error.SourceErrorKind.TheVariants as source
-use Rattle.dt_resolve.specs.declared.error.BuildError.TheVariants as build
+use Rattle.dt_resolve.specs.declared.error.BuildErrorKind.TheVariants as build
 use Rattle.dt_blob.specs.declared.error.BlobError.TheVariants as blob
 use Rattle.dt_fixup.specs.declared.error.OverlayError.TheVariants as overlay
 use Rattle.bus_plan.specs.declared.error.PlanError.TheVariants as text

@@ -3,7 +3,7 @@ use Rattle.std.specs.Prelude.{◌≡◌, ℕ, List, [], ◌++◌, codes, Option,
 use Rattle.std.specs.declared.alloc.Global.{Global}
 use Rattle.std.specs.Fmt.{decimal}
 use Rattle.dtman_engine.specs.declared.fault.Position.{Position}
-use Rattle.dtman_engine.specs.declared.fault.Position.TheVariants.{Nowhere, Line, At, Event}
+use Rattle.dtman_engine.specs.declared.fault.Position.TheVariants.{Nowhere, Line, At, Within, Event}
 use Rattle.dtman_engine.specs.declared.fault.Fault.{Fault}
 
 pub record FaultValue : Type 0 where
@@ -11,14 +11,23 @@ pub record FaultValue : Type 0 where
   pub name : List ℕ
   pub position : Position
 
+-- the position that a refusal's line tells: a place in what a source says isn't told there
+abbrev pub told_position : Position → Position
+told_position Nowhere = Nowhere
+told_position (Line line) = Line line
+told_position (At place) = At place
+told_position (Within place) = Nowhere
+told_position (Event event) = Event event
+
 abbrev pub fault_value : Fault → FaultValue
-fault_value fault = record { number = fault.number; name = fault.name.now; position = fault.position }
+fault_value fault = record { number = fault.number; name = fault.name.now; position = told_position fault.position }
 
 -- where the fault is, as it is printed
 abbrev pub position_text : Position → List ℕ
 position_text Nowhere = []
 position_text (Line line) = codes " line " ++ decimal line
 position_text (At place) = codes " line " ++ decimal place.line
+position_text (Within place) = []
 position_text (Event event) = codes " event " ++ decimal event
 
 -- the line that a position tells
@@ -26,6 +35,7 @@ abbrev pub line_in : Position → Option ℕ
 line_in Nowhere = None
 line_in (Line line) = Some line
 line_in (At place) = Some place.line
+line_in (Within place) = Some place.line
 line_in (Event event) = None
 
 -- the byte that a position tells
@@ -33,6 +43,7 @@ abbrev pub offset_in : Position → Option ℕ
 offset_in Nowhere = None
 offset_in (Line line) = None
 offset_in (At place) = Some place.offset
+offset_in (Within place) = Some place.offset
 offset_in (Event event) = None
 
 -- the number, the name and the position

@@ -6,7 +6,7 @@ use Rattle.dt_meaning.specs.Statements.{Fault}
 use Rattle.dt_meaning.specs.Syntax.{Meaning}
 use Rattle.dt_source.specs.declared.place.Place.{Place}
 use Rattle.dt_source.specs.declared.error.SourceErrorKind.{SourceErrorKind}
-use Rattle.dt_resolve.specs.declared.error.BuildError.{BuildError}
+use Rattle.dt_resolve.specs.declared.error.BuildErrorKind.{BuildErrorKind}
 use Rattle.dt_resolve.specs.BuildFault.{IsFault}
 use Rattle.dt_blob.specs.declared.error.BlobError.TheVariants.{TooLarge}
 use Rattle.dt_blob.specs.Blob.{blob_of}
@@ -36,7 +36,7 @@ pub record HasLongBlob (meant : Meant) : Type 0 where
 
 -- no tree is meant, for this error
 pub record MeansNone (meant : Meant) (fault : FaultValue) : Type 0 where
-  pub error : BuildError
+  pub error : BuildErrorKind
   pub told : fault ≡ build_fault error
   pub refuses : IsFault error meant
 

@@ -39,20 +39,22 @@ pub fn compile_bytes(
     one_source();
     match parse(alloc, source, Language::Profile) {
         Err(error) => Err(Fault::from(error)),
-        Ok(parsed) => source_blob(alloc, hasher, &parsed, symbols),
+        Ok(parsed) => source_blob(alloc, hasher, source, &parsed, symbols),
     }
 }
 
+// The blob of a source, of whose text it was parsed.
 fn source_blob(
     alloc: Global,
     hasher: RandomState,
+    text: &[u8],
     source: &Source<'_>,
     symbols: bool,
 ) -> Result<Vec<u8>, Fault>
     ensures { Builds symbols (meaning_of source.now) result }
 {
     match build_within(alloc, hasher, source, symbols, MAX_BLOB_LEN) {
-        Err(error) => Err(Fault::from(error)),
+        Err(error) => Err(Fault::of_build(text, error)),
         Ok(None) => Err(Fault::from(BlobError::TooLarge)),
         Ok(Some(tree)) => {
             tree.check();

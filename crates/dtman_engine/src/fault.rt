@@ -1,7 +1,7 @@
 //! A refusal as the program prints it.
 ghost use Rattle.std.specs.Prelude.{◌≡◌};
 ghost use Rattle.dtman_engine.specs.Fault.{fault_value, no_memory, cannot_read, cannot_write, file_too_long};
-ghost use Rattle.dtman_engine.specs.SourceFaults.{build_fault, source_fault};
+ghost use Rattle.dtman_engine.specs.SourceFaults.{build_fault, build_position, source_fault};
 ghost use Rattle.dtman_engine.specs.BlobFaults.{blob_fault};
 ghost use Rattle.dtman_engine.specs.OverlayFaults.{overlay_fault};
 ghost use Rattle.dtman_engine.specs.TextFaults.{text_fault};
@@ -9,12 +9,13 @@ ghost use Rattle.dtman_engine.specs.EventFaults.{event_fault};
 ghost use Rattle.dtman_engine.specs.RunFaults.{run_fault};
 
 use bus_core::Refusal;
+use bus_drivers::{Culprit, PlanFault};
 use bus_manager::RunError;
 use bus_plan::PlanError;
 use dt_blob::BlobError;
 use dt_build::BuildError;
 use dt_overlay::OverlayError;
-use dt_source::{Place, SourceError, SourceErrorKind};
+use dt_source::{Place, SourceError, SourceErrorKind, place_at};
 use std::alloc::AllocError;
 use std::fmt;
 
@@ -24,8 +25,10 @@ pub enum Position {
     Nowhere,
     /// A line of a text file, from 1.
     Line(usize),
-    /// A place in a source.
+    /// A place in a source, whose line is told beside the name.
     At(Place),
+    /// A place in what a source says, whose line isn't.
+    Within(Place),
     /// An event of a schedule, from 1.
     Event(usize),
 }
@@ -36,6 +39,8 @@ pub struct Fault {
     pub number: u8,
     pub name: &'static str,
     pub position: Position,
+    /// The property of a tree that 54 and 55 are of.
+    pub culprit: Option<Culprit>,
 }
 
 impl Fault {
@@ -47,7 +52,7 @@ impl Fault {
     {
         match self.position {
             Position::Line(line) => Some(line),
-            Position::At(place) => Some(place.line),
+            Position::At(place) | Position::Within(place) => Some(place.line),
             _ => None,
         }
     }
@@ -57,7 +62,7 @@ impl Fault {
         ensures { result ≡ offset_in self.now.position }
     {
         match self.position {
-            Position::At(place) => Some(place.offset),
+            Position::At(place) | Position::Within(place) => Some(place.offset),
             _ => None,
         }
     }
@@ -70,6 +75,23 @@ impl Fault {
             number: 0,
             name: "NoMemory",
             position: Position::Nowhere,
+            culprit: None,
+        }
+    }
+
+    /// What this text says makes no tree.
+    pub fn of_build(text: &[u8], error: BuildError) -> Fault
+        ensures told { fault_value result ≡ build_fault error.kind }
+        ensures placed { result.position ≡ build_position text.now error }
+    {
+        Fault {
+            number: error.number(),
+            name: error.name(),
+            position: match error.at {
+                0 => Position::Nowhere,
+                at => Position::Within(place_at(text, at)),
+            },
+            culprit: None,
         }
     }
 
@@ -81,6 +103,7 @@ impl Fault {
             number: 80,
             name: "CannotRead",
             position: Position::Nowhere,
+            culprit: None,
         }
     }
 
@@ -92,6 +115,7 @@ impl Fault {
             number: 81,
             name: "CannotWrite",
             position: Position::Nowhere,
+            culprit: None,
         }
     }
 
@@ -103,6 +127,7 @@ impl Fault {
             number: 82,
             name: "FileTooLong",
             position: Position::Nowhere,
+            culprit: None,
         }
     }
 }
@@ -126,6 +151,18 @@ impl From<PlanError> for Fault {
                 Some(line) => Position::Line(line),
                 None => Position::Nowhere,
             },
+            culprit: None,
+        }
+    }
+}
+
+impl From<PlanFault> for Fault {
+    ghost from_gives = { λ refused fault. fault_value fault ≡ text_fault refused };
+
+    fn from(refused: PlanFault) -> Fault {
+        Fault {
+            culprit: refused.culprit(),
+            ..Fault::from(refused.error())
         }
     }
 }
@@ -142,18 +179,7 @@ impl From<SourceError> for Fault {
                 SourceErrorKind::NoMemory => Position::Nowhere,
                 _ => Position::At(error.place),
             },
-        }
-    }
-}
-
-impl From<BuildError> for Fault {
-    ghost from_gives = { λ error fault. fault_value fault ≡ build_fault error };
-
-    fn from(error: BuildError) -> Fault {
-        Fault {
-            number: error.number(),
-            name: error.name(),
-            position: Position::Nowhere,
+            culprit: None,
         }
     }
 }
@@ -166,6 +192,7 @@ impl From<OverlayError> for Fault {
             number: error.number(),
             name: error.name(),
             position: Position::Nowhere,
+            culprit: None,
         }
     }
 }
@@ -178,6 +205,7 @@ impl From<BlobError> for Fault {
             number: error.number(),
             name: error.name(),
             position: Position::Nowhere,
+            culprit: None,
         }
     }
 }
@@ -190,6 +218,7 @@ impl From<RunError> for Fault {
             number: error.number(),
             name: error.name(),
             position: Position::Nowhere,
+            culprit: None,
         }
     }
 }
@@ -206,6 +235,7 @@ impl From<(usize, Refusal)> for Fault {
                 Refusal::NoMemory => Position::Nowhere,
                 _ => Position::Event(number),
             },
+            culprit: None,
         }
     }
 }
@@ -221,9 +251,10 @@ impl fmt::Display for Fault {
             number,
             name,
             position,
+            ..
         } = *self;
         match position {
-            Position::Nowhere => write!(f, "error {number} {name}"),
+            Position::Nowhere | Position::Within(_) => write!(f, "error {number} {name}"),
             Position::Line(line) => write!(f, "error {number} {name} line {line}"),
             Position::At(place) => write!(f, "error {number} {name} line {}", place.line),
             Position::Event(event) => write!(f, "error {number} {name} event {event}"),

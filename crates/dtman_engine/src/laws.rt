@@ -20,7 +20,7 @@ pub fn blobs_come_back()
 }
 
 /// One input has one answer, but for want of memory: what `compile_bytes` gives of a text that says something, what
-/// `compile_dtc_bytes` gives of one that says something with its files, and `overlay_bytes` and `dump_bytes` of bytes that hold
+/// `compile_dtc` gives of one that says something with its files, and `overlay_bytes` and `dump_bytes` of bytes that hold
 /// trees.
 pub fn one_answer()
     ensures { OneAnswer }

@@ -22,7 +22,7 @@ mod transfer;
 
 pub use channel::{Channel, Failed};
 pub use compiling::compile_bytes;
-pub use compiling_dtc::{DtcOptions, compile_dtc_bytes};
+pub use compiling_dtc::{Compiled, DtcOptions, compile_dtc};
 pub use copying::copy_bytes;
 pub use dump::dump_bytes;
 pub use explaining::{Explanation, explain};

@@ -12,8 +12,8 @@ ghost use Rattle.dtman_engine.specs.Plan.{planning, IsPlanned, IsPlanText, IsPla
 ghost use Rattle.dtman_engine.specs.Private.Printing.{Prints};
 
 use crate::fault::Fault;
-use bus_drivers::{plan, read_drivers};
-use bus_plan::{Plan, PlanError, plan_text};
+use bus_drivers::{PlanFault, plan, read_drivers};
+use bus_plan::{Plan, plan_text};
 use dt_blob::read;
 use dt_tree::Tree;
 use std::alloc::Global;
@@ -42,7 +42,7 @@ fn plan_tree(
     hasher: RandomState,
     tree: &Tree,
     drivers: &[u8],
-) -> Result<Plan, PlanError>
+) -> Result<Plan, PlanFault>
     ensures { Answers (planning tree.now drivers.now) result }
 {
     let drivers = read_drivers(alloc, hasher, drivers)?;

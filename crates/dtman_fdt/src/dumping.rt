@@ -90,45 +90,54 @@ fn dump<'a, H: Host>(alloc: Global, host: &mut H, words: &[&'a str]) -> Result<(
         return Err(Failure::Usage("missing input filename"));
     };
     let bytes = read_file(alloc, host, *path)?;
+    let mut head = Vec::new(alloc);
     let blob = if words.has("s") {
-        found(alloc, host, *path, bytes.as_slice())?
+        found(alloc, &mut head, *path, bytes.as_slice())?
     } else {
         bytes.as_slice()
     };
     if !blob.starts_with(MAGIC) || blob.len() < 40 {
         return Err(Failure::NoHeader(*path));
     }
-    let dumped = dump_of(alloc, blob, words.has("d"))?;
+    let dumped = dump_of(alloc, head, blob, words.has("d"))?;
     print(host, dumped.out.as_slice())?;
     host.report(dumped.told.as_slice());
     Ok(())
 }
 
-// The file from its first magic number on.
-fn found<'b, H: Host>(
+// The file from its first magic number on, whose place is put first.
+fn found<'a, 'b>(
     alloc: Global,
-    host: &mut H,
-    path: &str,
+    head: &mut Vec<u8>,
+    path: &'a str,
     bytes: &'b [u8],
-) -> Result<&'b [u8], Failure<'static>> {
+) -> Result<&'b [u8], Failure<'a>> {
     let place = bytes.windows(4).position(|window| window == MAGIC);
     match place {
         Some(place) if place < bytes.len() => {
-            let line = format!(in alloc; "{path}: found fdt at offset 0x{place:x}\n")?;
-            host.report(line.as_bytes());
+            let hex = if place == 0 { "" } else { "0x" };
+            add_text(
+                head,
+                format!(in alloc; "{path}: found fdt at offset {hex}{place:x}\n"),
+            )?;
             Ok(&bytes[place..])
         }
-        _ => Err(Failure::Said("FATAL ERROR: could not locate fdt magic")),
+        _ => Err(Failure::NoMagic(path)),
     }
 }
 
-fn dump_of(alloc: Global, blob: &[u8], wants_places: bool) -> Result<Dumped<'_>, AllocError> {
+fn dump_of(
+    alloc: Global,
+    head: Vec<u8>,
+    blob: &[u8],
+    wants_places: bool,
+) -> Result<Dumped<'_>, AllocError> {
     let mut dumped = Dumped {
         bytes: blob,
         strings_at: word_at(blob, 12).unwrap_or(0) as usize,
         wants_places,
         depth: 0,
-        out: Vec::new(alloc),
+        out: head,
         told: Vec::new(alloc),
     };
     dumped.add_header(alloc)?;

@@ -30,6 +30,8 @@ pub enum Failure<'a> {
     NoNumber(&'a str),
     /// The file's header is no blob's.
     NoHeader(&'a str),
+    /// No blob begins in the file.
+    NoMagic(&'a str),
 }
 
 impl From<AllocError> for Failure<'_> {
@@ -72,6 +74,9 @@ fn line_of(alloc: Global, failure: Failure<'_>) -> Result<String, AllocError> {
         ),
         Failure::NoHeader(path) => {
             format!(in alloc; "FATAL ERROR: {path}: header is not valid\n")
+        }
+        Failure::NoMagic(path) => {
+            format!(in alloc; "FATAL ERROR: {path}: could not locate fdt magic\n")
         }
     }
 }

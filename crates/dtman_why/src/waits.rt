@@ -35,6 +35,7 @@ pub fn no_device() -> Fault {
         number,
         name,
         position: Position::Nowhere,
+        culprit: None,
     }
 }
 

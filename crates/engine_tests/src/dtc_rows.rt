@@ -8,7 +8,7 @@ ghost use Rattle.std.specs.Prelude.{◌<◌};
 use crate::answers::{as_source, printed};
 use crate::compiling::{BLOB_MAGIC, repeat};
 use dt_lexeme::Binary;
-use dtman_engine::{DtcOptions, compile_dtc_bytes};
+use dtman_engine::{DtcOptions, compile_dtc};
 use std::alloc::Global;
 use std::hash::RandomState;
 use std::process::Abort;
@@ -27,8 +27,8 @@ fn compiled(
     source: &[u8],
     options: DtcOptions,
 ) -> Vec<u8> {
-    let answer = compile_dtc_bytes(alloc, hasher, source, Vec::new(alloc), options);
-    printed(rt, alloc, answer)
+    let answer = compile_dtc(alloc, hasher, source, Vec::new(alloc), options);
+    printed(rt, alloc, answer.map(|made| made.blob))
 }
 
 /// Row, source, and the blob.
@@ -314,8 +314,8 @@ fn printed_with_files(
     places: &[u32],
 ) -> Vec<u8> {
     let binaries = files(rt, alloc, places);
-    let answer = compile_dtc_bytes(alloc, hasher, source.as_bytes(), binaries, PLAIN);
-    as_source(rt, alloc, printed(rt, alloc, answer))
+    let answer = compile_dtc(alloc, hasher, source.as_bytes(), binaries, PLAIN);
+    as_source(rt, alloc, printed(rt, alloc, answer.map(|made| made.blob)))
 }
 
 #[test]

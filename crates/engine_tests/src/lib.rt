@@ -15,6 +15,8 @@ mod engines;
 #[cfg(test)]
 mod great_board;
 #[cfg(test)]
+mod labels;
+#[cfg(test)]
 mod late_drivers;
 #[cfg(test)]
 mod long_values;
@@ -22,6 +24,8 @@ mod long_values;
 mod overlay_places;
 #[cfg(test)]
 mod overlaying;
+#[cfg(test)]
+mod places;
 #[cfg(test)]
 mod plan_places;
 #[cfg(test)]

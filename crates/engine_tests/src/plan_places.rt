@@ -21,12 +21,20 @@ fn is_told(
     lines: &str,
 ) {
     let blob = compiled(rt, alloc, hasher, source, false);
-    let line = printed(rt, alloc, plan_bytes(alloc, hasher, blob.as_slice(), b""));
+    let Err(fault) = plan_bytes(alloc, hasher, blob.as_slice(), b"") else {
+        panic!(rt; "a refusal");
+    };
     let Some((first, _)) = lines.split_once('\n') else {
         panic!(rt; "lines");
     };
-    assert_eq!(rt; line.as_slice(), first.as_bytes());
-    let diagnosis = diagnose_plan(alloc, file.as_bytes(), blob.as_slice(), number);
+    assert_eq!(rt; printed(rt, alloc, Err(fault)).as_slice(), first.as_bytes());
+    let diagnosis = diagnose_plan(
+        alloc,
+        file.as_bytes(),
+        blob.as_slice(),
+        number,
+        fault.culprit,
+    );
     let text = text_of(alloc, first, &diagnosis.expect(rt, "a diagnosis")).expect(rt, "a text");
     assert_eq!(rt; text.as_str(), lines);
 }
@@ -177,7 +185,7 @@ fn examples(rt: HostRuntime) {
 
 // That only the file is told where the blob has no such fault.
 fn is_file_alone(rt: &impl Abort, alloc: Global, blob: &[u8]) {
-    let diagnosis = diagnose_plan(alloc, b"b.dtb", blob, 54).expect(rt, "a diagnosis");
+    let diagnosis = diagnose_plan(alloc, b"b.dtb", blob, 54, None).expect(rt, "a diagnosis");
     let text = text_of(alloc, "error 54 DanglingPhandle", &diagnosis).expect(rt, "a text");
     assert_eq!(rt;
         text.as_str(),

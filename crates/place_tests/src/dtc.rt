@@ -2,10 +2,11 @@
 //! told.
 
 use super::shown::shows;
-use crate::refused::refused_by;
+use crate::refused::{Compiled, refused_by};
 use dt_lexeme::Language;
 use dtman_diagnosis::{diagnose_dtc, dtc_span};
 use std::process::Abort;
+use std::random::RandomSource;
 
 /// A source, whether it gets symbols, the number by which it is refused, the bytes that are refused, and the lines of that.
 struct Row {
@@ -194,12 +195,17 @@ const MEANING: &[Row] = &[
 const DEEP: &str =
     "/dts-v1/;\n/ {\n1 { 2 { 3 { 4 { 5 { 6 { 7 { 8 { 9 { 10 { 11 { 12 { 13 { 14 { 15 { 16 {\n17 { 18 { 19 { 20 { 21 { 22 { 23 { 24 { 25 { 26 { 27 { 28 { 29 { 30 { 31 { 32 {\n33 { 34 { 35 { 36 { 37 { 38 { 39 { 40 { 41 { 42 { 43 { 44 { 45 { 46 { 47 { 48 {\n49 { 50 { 51 { 52 { 53 { 54 { 55 { 56 { 57 { 58 { 59 { 60 { 61 { 62 { 63 { l: 64 {\n}; }; }; }; }; }; }; }; }; }; }; }; }; }; }; };\n}; }; }; }; }; }; }; }; }; }; }; }; }; }; }; };\n}; }; }; }; }; }; }; }; }; }; }; }; }; }; }; };\n}; }; }; }; }; }; }; }; }; }; }; }; }; }; }; };\n};\n&l { 65 { }; };\n";
 
-fn row_shows<R: Abort + AllocGlobal>(rt: &R, row: &Row) {
+fn row_shows<R: Abort + AllocGlobal + RandomSource>(rt: &R, row: &Row) {
     let (file, source) = (b"board.dts".as_slice(), row.source.as_bytes());
-    let refused = refused_by(rt, Language::Dtc, source, row.number);
-    let diagnosis = diagnose_dtc(rt.alloc(), file, source, row.symbols, refused);
+    let compiled = Compiled {
+        language: Language::Dtc,
+        text: source,
+        symbols: row.symbols,
+    };
+    let refused = refused_by(rt, compiled, row.number);
+    let diagnosis = diagnose_dtc(rt.alloc(), file, source, refused);
     shows(rt, rt.alloc(), diagnosis, row.lines);
-    let Ok(span) = dtc_span(rt.alloc(), source, row.symbols, refused) else {
+    let Ok(span) = dtc_span(rt.alloc(), source, refused) else {
         panic!(rt; "memory");
     };
     match (span, row.refused) {

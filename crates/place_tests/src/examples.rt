@@ -1,13 +1,14 @@
 //! That the examples of `explain` show what is told of them in detail.
 
 use super::shown::shows;
-use crate::refused::refused_by;
+use crate::refused::{Compiled, refused_by};
 use dt_lexeme::Language;
 use dtman_diagnosis::{
     BusText, Devices, TextKind, diagnose_event, diagnose_source, diagnose_text, example_of,
 };
 use std::alloc::Global;
 use std::process::Abort;
+use std::random::RandomSource;
 
 /// A number, and a source.
 const SOURCES: &[(u8, &str)] = &[
@@ -32,10 +33,15 @@ const SOURCES: &[(u8, &str)] = &[
     (27, "/dts-v1/;/{a=<&{/__symbols__}>; __symbols__{};};"),
 ];
 
-fn source_shows<R: Abort + AllocGlobal>(rt: &R, number: u8, source: &str) {
+fn source_shows<R: Abort + AllocGlobal + RandomSource>(rt: &R, number: u8, source: &str) {
     let file = b"IN".as_slice();
-    let refused = refused_by(rt, Language::Profile, source.as_bytes(), number);
-    let diagnosis = diagnose_source(rt.alloc(), file, source.as_bytes(), false, refused);
+    let compiled = Compiled {
+        language: Language::Profile,
+        text: source.as_bytes(),
+        symbols: false,
+    };
+    let refused = refused_by(rt, compiled, number);
+    let diagnosis = diagnose_source(rt.alloc(), file, source.as_bytes(), refused);
     let lines = example_of(number).expect(rt, "an example");
     shows(rt, rt.alloc(), diagnosis, lines);
 }

@@ -1,10 +1,11 @@
 //! Refusals as objects of JSON (RFC 8259, section 7: which characters a string escapes).
 
-use crate::refused::refused_by;
+use crate::refused::{Compiled, refused_by};
 use dt_lexeme::Language;
 use dtman_diagnosis::{Diagnosis, diagnose_blob, diagnose_source, json_of};
 use std::alloc::AllocError;
 use std::process::Abort;
+use std::random::RandomSource;
 
 fn is_object<R: Abort + AllocGlobal>(
     rt: &R,
@@ -58,11 +59,16 @@ const ROWS: &[Row] = &[
     },
 ];
 
-fn row_is_object<R: Abort + AllocGlobal>(rt: &R, row: &Row) {
+fn row_is_object<R: Abort + AllocGlobal + RandomSource>(rt: &R, row: &Row) {
     let file = b"a\"\\\tb.dts".as_slice();
     let source = row.source.as_bytes();
-    let refused = refused_by(rt, Language::Profile, source, row.number);
-    let diagnosis = diagnose_source(rt.alloc(), file, source, false, refused);
+    let compiled = Compiled {
+        language: Language::Profile,
+        text: source,
+        symbols: false,
+    };
+    let refused = refused_by(rt, compiled, row.number);
+    let diagnosis = diagnose_source(rt.alloc(), file, source, refused);
     is_object(rt, row.name, row.line, diagnosis, row.object);
 }
 

@@ -1,10 +1,11 @@
 //! Mistakes that users make, and what is told of them.
 
 use super::shown::shows;
-use crate::refused::refused_by;
+use crate::refused::{Compiled, refused_by};
 use dt_lexeme::Language;
 use dtman_diagnosis::{diagnose_dtc, diagnose_source};
 use std::process::Abort;
+use std::random::RandomSource;
 
 /// A source in a language, the number by which it is refused, and what is told behind the file's name.
 struct Row {
@@ -178,12 +179,17 @@ const ROWS: &[Row] = &[
     },
 ];
 
-fn row_shows<R: Abort + AllocGlobal>(rt: &R, row: &Row) {
+fn row_shows<R: Abort + AllocGlobal + RandomSource>(rt: &R, row: &Row) {
     let (file, source) = (b"board.dts".as_slice(), row.source.as_bytes());
-    let refused = refused_by(rt, row.language, source, row.number);
+    let compiled = Compiled {
+        language: row.language,
+        text: source,
+        symbols: false,
+    };
+    let refused = refused_by(rt, compiled, row.number);
     let diagnosis = match row.language {
-        Language::Profile => diagnose_source(rt.alloc(), file, source, false, refused),
-        Language::Dtc => diagnose_dtc(rt.alloc(), file, source, false, refused),
+        Language::Profile => diagnose_source(rt.alloc(), file, source, refused),
+        Language::Dtc => diagnose_dtc(rt.alloc(), file, source, refused),
     };
     shows(rt, rt.alloc(), diagnosis, row.lines);
 }

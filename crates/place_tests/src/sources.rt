@@ -1,10 +1,11 @@
 //! Refusals of sources: where they are by the line markers, what they are of, and what else is told.
 
 use super::shown::shows;
-use crate::refused::refused_by;
+use crate::refused::{Compiled, refused_by};
 use dt_lexeme::Language;
 use dtman_diagnosis::diagnose_source;
 use std::process::Abort;
+use std::random::RandomSource;
 
 /// A source, whether it gets symbols, the number by which it is refused, and the lines of that.
 struct Row {
@@ -170,10 +171,15 @@ const MEANING: &[Row] = &[
     },
 ];
 
-fn row_shows<R: Abort + AllocGlobal>(rt: &R, row: &Row) {
+fn row_shows<R: Abort + AllocGlobal + RandomSource>(rt: &R, row: &Row) {
     let (file, source) = (b"board.i".as_slice(), row.source.as_bytes());
-    let refused = refused_by(rt, Language::Profile, source, row.number);
-    let diagnosis = diagnose_source(rt.alloc(), file, source, row.symbols, refused);
+    let compiled = Compiled {
+        language: Language::Profile,
+        text: source,
+        symbols: row.symbols,
+    };
+    let refused = refused_by(rt, compiled, row.number);
+    let diagnosis = diagnose_source(rt.alloc(), file, source, refused);
     shows(rt, rt.alloc(), diagnosis, row.lines);
 }
 

@@ -3,7 +3,7 @@
 mod drivers;
 mod suppliers;
 
-use bus_drivers::{DriverSet, plan, read_drivers};
+use bus_drivers::{Culprit, DriverSet, Entry as EntryAt, PlanFault, plan, read_drivers};
 use bus_plan::{Plan, PlanError, plan_text};
 use drivers::DRIVERS;
 use dt_tree::{Bytes, Name, Node, Property, Tree};
@@ -91,10 +91,10 @@ fn told(rt: &impl Abort, alloc: Global, error: PlanError) -> Vec<u8> {
     told.expect(rt, "memory").into_bytes()
 }
 
-fn printed_answer(rt: &impl Abort, alloc: Global, answer: Result<Plan, PlanError>) -> Vec<u8> {
+fn printed_answer(rt: &impl Abort, alloc: Global, answer: Result<Plan, PlanFault>) -> Vec<u8> {
     match answer {
         Ok(plan) => plan_text(alloc, &plan).expect(rt, "a text"),
-        Err(error) => told(rt, alloc, error),
+        Err(fault) => told(rt, alloc, fault.error()),
     }
 }
 
@@ -187,7 +187,8 @@ fn refused_by(
     count: usize,
 ) -> Option<PlanError> {
     let tree = wide(rt, alloc, count, DANGLING);
-    plan(alloc, hasher, &tree, drivers).err()
+    let fault = plan(alloc, hasher, &tree, drivers).err()?;
+    Some(fault.error())
 }
 
 fn refused(
@@ -212,6 +213,65 @@ fn too_many_devices(rt: HostRuntime) {
     assert_eq!(rt; few, Some(PlanError::UnknownPath(1)));
     let dangling = refused(&rt, alloc, hasher, b"", 4_096);
     assert_eq!(rt; dangling, Some(PlanError::DanglingPhandle));
+}
+
+/// A row of `SUPPLIERS`, and the property that it is refused for, worked by hand.
+type Refused = (&'static str, Culprit);
+
+/// The first entry of the first device's second property, and of the second device's; and that a value's length is at fault.
+const CULPRITS: &[Refused] = &[
+    ("dangling-phandle", OF_SECOND_DEVICE),
+    ("clock-cells: fewer cells left", OF_SECOND_DEVICE),
+    (
+        "faults in the order of devices, properties and entries",
+        OF_FIRST_DEVICE,
+    ),
+    ("the length is tested before the entries", OF_LENGTH),
+    ("one phandle is wanted", OF_LENGTH),
+];
+
+const FIRST_ENTRY: Option<EntryAt> = Some(EntryAt {
+    number: 1,
+    offset: 0,
+});
+
+const OF_FIRST_DEVICE: Culprit = Culprit {
+    device: 0,
+    property: 1,
+    entry: FIRST_ENTRY,
+};
+
+const OF_SECOND_DEVICE: Culprit = Culprit {
+    device: 1,
+    property: 1,
+    entry: FIRST_ENTRY,
+};
+
+const OF_LENGTH: Culprit = Culprit {
+    device: 0,
+    property: 1,
+    entry: None,
+};
+
+fn is_culprit(rt: &impl Abort, alloc: Global, hasher: RandomState, name: &str, culprit: Culprit) {
+    let row = SUPPLIERS
+        .iter()
+        .find(|row| row.0 == name)
+        .expect(rt, "a row");
+    let tree = tree_of(rt, alloc, row.1);
+    let drivers = read_drivers(alloc, hasher, row.2.as_bytes()).expect(rt, "a driver file");
+    let fault = plan(alloc, hasher, &tree, &drivers)
+        .err()
+        .expect(rt, "a refusal");
+    assert_eq!(rt; fault.culprit(), Some(culprit));
+}
+
+#[test]
+fn culprits(rt: HostRuntime) {
+    let hasher = RandomState::new(&rt).expect(&rt, "a seed");
+    for (name, culprit) in CULPRITS {
+        is_culprit(&rt, rt.alloc(), hasher, *name, *culprit);
+    }
 }
 
 fn has_a_plan(

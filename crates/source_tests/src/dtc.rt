@@ -266,7 +266,7 @@ fn is_node(rt: &impl Abort, statement: &Statement<'_>, omitted: bool, count: usi
 }
 
 fn says_nodes(rt: &impl Abort, item: &Item<'_>) {
-    let Item::Root(body) = item else {
+    let Item::Root { body, .. } = item else {
         panic!(rt; "a root");
     };
     let [marked, plain] = body.as_slice() else {
@@ -277,7 +277,7 @@ fn says_nodes(rt: &impl Abort, item: &Item<'_>) {
 }
 
 fn is_mark(rt: &impl Abort, item: &Item<'_>) {
-    let Item::Omit(Reference::Label(label)) = item else {
+    let Item::Omit(Reference::Label { label, .. }) = item else {
         panic!(rt; "a mark by a label");
     };
     assert_eq!(rt; *label, b"l".as_slice());

@@ -12,9 +12,13 @@ mod dtc_files;
 #[cfg(test)]
 mod expressions;
 #[cfg(test)]
+mod fault_places;
+#[cfg(test)]
 mod gathered;
 #[cfg(test)]
 mod lexemes;
+#[cfg(test)]
+mod offsets;
 #[cfg(test)]
 mod places;
 #[cfg(test)]
@@ -23,3 +27,5 @@ mod sources;
 mod standing;
 #[cfg(test)]
 mod tree_builders;
+#[cfg(test)]
+mod tree_places;

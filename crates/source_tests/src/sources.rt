@@ -14,8 +14,8 @@ use std::process::Abort;
 // The value of the last property of the last item, which is the root.
 pub fn last_value<'s, 'a>(source: &'s Source<'a>) -> Option<&'s [Part<'a>]> {
     match source.items.last() {
-        Some(Item::Root(body)) => match body.last() {
-            Some(Statement::Property { value, .. }) => Some(value.as_slice()),
+        Some(Item::Root { body, .. }) => match body.last() {
+            Some(Statement::Property { value, .. }) => Some(value.parts.as_slice()),
             _ => None,
         },
         _ => None,
@@ -114,10 +114,10 @@ fn values_of_bytes(rt: HostRuntime) {
 fn said<'s>(part: &'s Part<'_>) -> (&'static str, &'s [u8]) {
     match part {
         Part::Bytes(bytes) => ("bytes", bytes.as_slice()),
-        Part::Phandle(Reference::Label(label)) => ("phandle of a label", label),
-        Part::Phandle(Reference::Path(path)) => ("phandle of a path", path),
-        Part::Path(Reference::Label(label)) => ("path of a label", label),
-        Part::Path(Reference::Path(path)) => ("path of a path", path),
+        Part::Phandle(Reference::Label { label, .. }) => ("phandle of a label", label),
+        Part::Phandle(Reference::Path { path, .. }) => ("phandle of a path", path),
+        Part::Path(Reference::Label { label, .. }) => ("path of a label", label),
+        Part::Path(Reference::Path { path, .. }) => ("path of a path", path),
         Part::File(_) => ("file", b""),
     }
 }
@@ -255,18 +255,18 @@ fn is_empty_property(rt: &impl Abort, statement: &Statement<'_>, named: &[u8]) {
         panic!(rt; "a property");
     };
     assert_eq!(rt; *name, named);
-    assert_eq!(rt; value.len(), 0);
+    assert_eq!(rt; value.parts.len(), 0);
 }
 
 fn deletes_property(rt: &impl Abort, statement: &Statement<'_>, named: &[u8]) {
-    let Statement::DeleteProperty { name } = statement else {
+    let Statement::DeleteProperty { name, .. } = statement else {
         panic!(rt; "a property's deletion");
     };
     assert_eq!(rt; *name, named);
 }
 
 fn deletes_node(rt: &impl Abort, statement: &Statement<'_>, named: &[u8]) {
-    let Statement::DeleteNode { name } = statement else {
+    let Statement::DeleteNode { name, .. } = statement else {
         panic!(rt; "a node's deletion");
     };
     assert_eq!(rt; *name, named);
@@ -313,14 +313,14 @@ fn extension(rt: &impl Abort, body: &[Statement<'_>]) {
 }
 
 fn is_empty_root(rt: &impl Abort, item: &Item<'_>) {
-    let Item::Root(body) = item else {
+    let Item::Root { body, .. } = item else {
         panic!(rt; "a root");
     };
     assert_eq!(rt; body.len(), 0);
 }
 
 fn is_label(rt: &impl Abort, reference: &Reference<'_>, named: &[u8]) {
-    let Reference::Label(label) = reference else {
+    let Reference::Label { label, .. } = reference else {
         panic!(rt; "a label");
     };
     assert_eq!(rt; *label, named);
@@ -344,7 +344,7 @@ fn is_extension(rt: &impl Abort, item: &Item<'_>) {
 }
 
 fn is_deletion(rt: &impl Abort, item: &Item<'_>) {
-    let Item::Delete(Reference::Path(path)) = item else {
+    let Item::Delete(Reference::Path { path, .. }) = item else {
         panic!(rt; "a deletion by a path");
     };
     assert_eq!(rt; *path, b"/a".as_slice());

@@ -1,6 +1,6 @@
 //! What stands when a source in dtc's language is read, as dtc 1.6.1 has it: rows of `docs/model/dtc.md`, worked by hand. Nodes are
 //! told by their names in the order of their places, and labels in the order of the symbols.
-use dt_edit::{EditError, Standing, edit_dtc, fragments_of};
+use dt_edit::{EditErrorKind, Standing, edit_dtc, fragments_of};
 use dt_lexeme::Language;
 use dt_source::{Source, parse};
 use std::alloc::Global;
@@ -93,20 +93,20 @@ const ROWS: &[Row] = &[
 ];
 
 // Texts that leave no tree, and why.
-const REFUSED: &[(&[u8], EditError)] = &[
+const REFUSED: &[(&[u8], EditErrorKind)] = &[
     // a label at two nodes when all is read
     (
         b"/dts-v1/; / { l: a { }; l: b { }; };",
-        EditError::DuplicateLabel,
+        EditErrorKind::DuplicateLabel,
     ),
     // the fault of an item comes first
     (
         b"/dts-v1/; / { l: a { }; l: b { }; }; &nope { };",
-        EditError::UnknownLabel,
+        EditErrorKind::UnknownLabel,
     ),
     (
         b"/dts-v1/; / { b { }; /delete-node/ b; };",
-        EditError::DuplicateInBody,
+        EditErrorKind::DuplicateInBody,
     ),
 ];
 
@@ -152,13 +152,13 @@ fn check_fault(
     alloc: Global,
     hasher: RandomState,
     source: &Source<'_>,
-    fault: EditError,
+    fault: EditErrorKind,
 ) {
     source.check();
     let fragments = fragments_of(alloc, source.items.as_slice()).expect(rt, "memory");
     match edit_dtc(alloc, hasher, &fragments, source) {
         Ok(_) => panic!(rt; "a tree"),
-        Err(error) => assert_eq!(rt; error, fault),
+        Err(error) => assert_eq!(rt; error.kind, fault),
     }
 }
 

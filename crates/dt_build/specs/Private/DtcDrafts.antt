@@ -1,26 +1,17 @@
 -- What a tree in dtc's language is made of (Devicetree Specification v0.4, sections 2.3.3 and 6.3; where it is silent, dtc 1.6.1, tried
 -- by hand): properties that repeat their node's name are left out, and a number gets a property where its node is left and has no own.
-use Rattle.std.specs.Prelude.{◌≡◌, ◌==◌, ℕ, Bool, true, not, ◌&&◌, List, [], Vec, codes}
+use Rattle.std.specs.Prelude.{◌≡◌, ◌==◌, ℕ, Bool, true, not, ◌&&◌, List, Vec, codes}
 use Rattle.std.specs.Global.{Global}
 use Rattle.std.specs.List.{filter, list_any}
 use Rattle.std.specs.Str.{bytes_eq}
-use Rattle.dt_meaning.specs.DtcResolved.{repeats_name}
 use Rattle.dt_live.specs.declared.live_tree.LiveTree.{LiveTree}
 use Rattle.dt_live.specs.declared.preorder.properties.NodeProperty.{NodeProperty}
-use Rattle.dt_live.specs.Rows.{is_standing, node_path}
+use Rattle.dt_live.specs.Rows.{is_standing}
 use Rattle.dt_edit.specs.Said.{Parts}
 use Rattle.dt_resolve.specs.declared.gathered.Gathered.{Gathered}
 use Rattle.dt_resolve.specs.declared.node_phandles.NodePhandle.{NodePhandle}
-use Rattle.dt_resolve.specs.Founds.{found_property}
+pub use Rattle.dt_build.specs.Places.{kept_properties, repeats}
 use Rattle.dt_build.specs.declared.draft.Draft.{Draft}
-
--- ---- properties
--- it says its node's name, whatever its targets are
-abbrev pub repeats : LiveTree Parts → NodeProperty Parts → Bool
-repeats d x = repeats_name (found_property (node_path d) x [])
-
-abbrev pub kept_properties : LiveTree Parts → List (NodeProperty Parts) → List (NodeProperty Parts)
-kept_properties d xs = filter (λ x. not (repeats d x)) xs
 
 -- ---- phandles
 -- a node's own property `phandle`

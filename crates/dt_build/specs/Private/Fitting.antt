@@ -32,7 +32,7 @@ IsFitting symbols m p limit None = (limit < size_in (lists symbols p).properties
 abbrev pub MakesTree : Bool → Meaning → Draft → ℕ → Result (Option TreeData) BuildError → Type 0
 MakesTree symbols m p limit result = MatchResult result
     (λ tree. (list_any is_too_deep (lists symbols p).nodes ≡ false) × IsFitting symbols m p limit tree)
-    (λ e. IsFault e (shallow (lists symbols p)))
+    (λ e. IsFault e.kind (shallow (lists symbols p)))
 
 -- the source was prepared, whatever its values are
 abbrev pub IsPreparedFrom : Bool → Meaning → Draft → Type 0

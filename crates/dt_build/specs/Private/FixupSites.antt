@@ -58,7 +58,7 @@ fixed_sites asks ns e = if is_fixed asks e then sites_in ns e.path e.name 0 e.va
 -- those in these properties, whose values have the first of these targets
 abbrev pub all_left : Bool → List PathPhandle → (ℕ → Path) → List (NodeProperty Parts) → List (Option ℕ) → List Site
 all_left asks ns path [] ts = []
-all_left asks ns path (x ∷ xs) ts = fixed_sites asks ns (found_property path x ts) ++ all_left asks ns path xs (drop (all_uses x.value.now) ts)
+all_left asks ns path (x ∷ xs) ts = fixed_sites asks ns (found_property path x ts) ++ all_left asks ns path xs (drop (all_uses x.value.now.parts.items) ts)
 
 -- ---- sites put behind others
 -- that of a part of the property at a place in preorder, where it is a phandle

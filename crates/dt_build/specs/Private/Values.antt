@@ -20,4 +20,4 @@ bytes_for p v ts = value_bytes (all_phandles p) (founds_of (node_path p.live) v 
 -- the bytes of values whose targets are the first of these
 abbrev pub values_of : List PathPhandle → (ℕ → Path) → List Parts → List (Option ℕ) → List (List ℕ)
 values_of ns path [] ts = []
-values_of ns path (v ∷ vs) ts = value_bytes ns (founds_of path v.now ts) ∷ values_of ns path vs (drop (all_uses v.now) ts)
+values_of ns path (v ∷ vs) ts = value_bytes ns (founds_of path v.now.parts.items ts) ∷ values_of ns path vs (drop (all_uses v.now.parts.items) ts)

@@ -1,19 +1,23 @@
 //! The rest of dtc's: lines of GPIO controllers, interrupts, aliases, graphs.
 
-use crate::check::{Among, Check, Finds, Severity};
+use crate::check::{Among, Check, Finds, Listed, Severity};
 use crate::rule::{LinkRule, PropertyRule, Rule};
 use crate::table::PART;
 use dt_check::Graph;
+use dt_check_links::Listing;
 
 static PART_7: [Check; PART] = [
     Check {
-        name: "thermal_sensors_is_cell",
+        name: "thermal_sensors_property",
         severity: Severity::Warning,
-        prerequisites: &[],
-        made_before: &[],
-        finds: Finds::Node(
-            Among::With(b"#thermal-sensor-cells"),
-            &[Rule::IsCell(b"#thermal-sensor-cells")],
+        prerequisites: &[76, 10],
+        made_before: &[76, 0, 9, 10],
+        finds: Finds::Lists(
+            Listed::Named(b"thermal-sensors"),
+            Listing {
+                cells: b"#thermal-sensor-cells",
+                optional: false,
+            },
         ),
     },
     Check {
@@ -28,7 +32,13 @@ static PART_7: [Check; PART] = [
         severity: Severity::Warning,
         prerequisites: &[10],
         made_before: &[0, 9, 10],
-        finds: Finds::Gpios,
+        finds: Finds::Lists(
+            Listed::Lines,
+            Listing {
+                cells: b"#gpio-cells",
+                optional: false,
+            },
+        ),
     },
     Check {
         name: "interrupts_property",

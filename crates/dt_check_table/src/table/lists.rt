@@ -1,7 +1,7 @@
 //! The second half but for its end: `/chosen` and the lists of phandles.
 
-use crate::check::{Among, Check, Finds, Severity};
-use crate::rule::{LinkRule, Rule};
+use crate::check::{Among, Check, Finds, Listed, Severity};
+use crate::rule::Rule;
 use crate::table::PART;
 use dt_check_links::Listing;
 
@@ -21,22 +21,6 @@ static PART_4: [Check; PART] = [
         finds: Finds::Node(Among::Named(b"chosen"), &[Rule::OldStdout, Rule::Stdout]),
     },
     Check {
-        name: "clocks_property",
-        severity: Severity::Warning,
-        prerequisites: &[47, 10],
-        made_before: &[47, 0, 9, 10],
-        finds: Finds::Links(
-            Among::With(b"clocks"),
-            &[LinkRule::Specifiers(
-                b"clocks",
-                Listing {
-                    cells: b"#clock-cells",
-                    optional: false,
-                },
-            )],
-        ),
-    },
-    Check {
         name: "clocks_is_cell",
         severity: Severity::Warning,
         prerequisites: &[],
@@ -47,19 +31,16 @@ static PART_4: [Check; PART] = [
         ),
     },
     Check {
-        name: "cooling_device_property",
+        name: "clocks_property",
         severity: Severity::Warning,
-        prerequisites: &[49, 10],
-        made_before: &[49, 0, 9, 10],
-        finds: Finds::Links(
-            Among::With(b"cooling-device"),
-            &[LinkRule::Specifiers(
-                b"cooling-device",
-                Listing {
-                    cells: b"#cooling-cells",
-                    optional: false,
-                },
-            )],
+        prerequisites: &[46, 10],
+        made_before: &[46, 0, 9, 10],
+        finds: Finds::Lists(
+            Listed::Named(b"clocks"),
+            Listing {
+                cells: b"#clock-cells",
+                optional: false,
+            },
         ),
     },
     Check {
@@ -73,19 +54,16 @@ static PART_4: [Check; PART] = [
         ),
     },
     Check {
-        name: "dmas_property",
+        name: "cooling_device_property",
         severity: Severity::Warning,
-        prerequisites: &[51, 10],
-        made_before: &[51, 0, 9, 10],
-        finds: Finds::Links(
-            Among::With(b"dmas"),
-            &[LinkRule::Specifiers(
-                b"dmas",
-                Listing {
-                    cells: b"#dma-cells",
-                    optional: false,
-                },
-            )],
+        prerequisites: &[48, 10],
+        made_before: &[48, 0, 9, 10],
+        finds: Finds::Lists(
+            Listed::Named(b"cooling-device"),
+            Listing {
+                cells: b"#cooling-cells",
+                optional: false,
+            },
         ),
     },
     Check {
@@ -96,19 +74,16 @@ static PART_4: [Check; PART] = [
         finds: Finds::Node(Among::With(b"#dma-cells"), &[Rule::IsCell(b"#dma-cells")]),
     },
     Check {
-        name: "hwlocks_property",
+        name: "dmas_property",
         severity: Severity::Warning,
-        prerequisites: &[53, 10],
-        made_before: &[53, 0, 9, 10],
-        finds: Finds::Links(
-            Among::With(b"hwlocks"),
-            &[LinkRule::Specifiers(
-                b"hwlocks",
-                Listing {
-                    cells: b"#hwlock-cells",
-                    optional: false,
-                },
-            )],
+        prerequisites: &[50, 10],
+        made_before: &[50, 0, 9, 10],
+        finds: Finds::Lists(
+            Listed::Named(b"dmas"),
+            Listing {
+                cells: b"#dma-cells",
+                optional: false,
+            },
         ),
     },
     Check {
@@ -122,24 +97,18 @@ static PART_4: [Check; PART] = [
         ),
     },
     Check {
-        name: "interrupts_extended_property",
+        name: "hwlocks_property",
         severity: Severity::Warning,
-        prerequisites: &[55, 10],
-        made_before: &[55, 0, 9, 10],
-        finds: Finds::Links(
-            Among::With(b"interrupts-extended"),
-            &[LinkRule::Specifiers(
-                b"interrupts-extended",
-                Listing {
-                    cells: b"#interrupt-cells",
-                    optional: false,
-                },
-            )],
+        prerequisites: &[52, 10],
+        made_before: &[52, 0, 9, 10],
+        finds: Finds::Lists(
+            Listed::Named(b"hwlocks"),
+            Listing {
+                cells: b"#hwlock-cells",
+                optional: false,
+            },
         ),
     },
-];
-
-static PART_5: [Check; PART] = [
     Check {
         name: "interrupts_extended_is_cell",
         severity: Severity::Warning,
@@ -150,20 +119,20 @@ static PART_5: [Check; PART] = [
             &[Rule::IsCell(b"#interrupt-cells")],
         ),
     },
+];
+
+static PART_5: [Check; PART] = [
     Check {
-        name: "io_channels_property",
+        name: "interrupts_extended_property",
         severity: Severity::Warning,
-        prerequisites: &[57, 10],
-        made_before: &[57, 0, 9, 10],
-        finds: Finds::Links(
-            Among::With(b"io-channels"),
-            &[LinkRule::Specifiers(
-                b"io-channels",
-                Listing {
-                    cells: b"#io-channel-cells",
-                    optional: false,
-                },
-            )],
+        prerequisites: &[54, 10],
+        made_before: &[54, 0, 9, 10],
+        finds: Finds::Lists(
+            Listed::Named(b"interrupts-extended"),
+            Listing {
+                cells: b"#interrupt-cells",
+                optional: false,
+            },
         ),
     },
     Check {
@@ -177,19 +146,16 @@ static PART_5: [Check; PART] = [
         ),
     },
     Check {
-        name: "iommus_property",
+        name: "io_channels_property",
         severity: Severity::Warning,
-        prerequisites: &[59, 10],
-        made_before: &[59, 0, 9, 10],
-        finds: Finds::Links(
-            Among::With(b"iommus"),
-            &[LinkRule::Specifiers(
-                b"iommus",
-                Listing {
-                    cells: b"#iommu-cells",
-                    optional: false,
-                },
-            )],
+        prerequisites: &[56, 10],
+        made_before: &[56, 0, 9, 10],
+        finds: Finds::Lists(
+            Listed::Named(b"io-channels"),
+            Listing {
+                cells: b"#io-channel-cells",
+                optional: false,
+            },
         ),
     },
     Check {
@@ -203,19 +169,16 @@ static PART_5: [Check; PART] = [
         ),
     },
     Check {
-        name: "mboxes_property",
+        name: "iommus_property",
         severity: Severity::Warning,
-        prerequisites: &[61, 10],
-        made_before: &[61, 0, 9, 10],
-        finds: Finds::Links(
-            Among::With(b"mboxes"),
-            &[LinkRule::Specifiers(
-                b"mboxes",
-                Listing {
-                    cells: b"#mbox-cells",
-                    optional: false,
-                },
-            )],
+        prerequisites: &[58, 10],
+        made_before: &[58, 0, 9, 10],
+        finds: Finds::Lists(
+            Listed::Named(b"iommus"),
+            Listing {
+                cells: b"#iommu-cells",
+                optional: false,
+            },
         ),
     },
     Check {
@@ -226,19 +189,16 @@ static PART_5: [Check; PART] = [
         finds: Finds::Node(Among::With(b"#mbox-cells"), &[Rule::IsCell(b"#mbox-cells")]),
     },
     Check {
-        name: "msi_parent_property",
+        name: "mboxes_property",
         severity: Severity::Warning,
-        prerequisites: &[63, 10],
-        made_before: &[63, 0, 9, 10],
-        finds: Finds::Links(
-            Among::With(b"msi-parent"),
-            &[LinkRule::Specifiers(
-                b"msi-parent",
-                Listing {
-                    cells: b"#msi-cells",
-                    optional: true,
-                },
-            )],
+        prerequisites: &[60, 10],
+        made_before: &[60, 0, 9, 10],
+        finds: Finds::Lists(
+            Listed::Named(b"mboxes"),
+            Listing {
+                cells: b"#mbox-cells",
+                optional: false,
+            },
         ),
     },
     Check {
@@ -249,19 +209,16 @@ static PART_5: [Check; PART] = [
         finds: Finds::Node(Among::With(b"#msi-cells"), &[Rule::IsCell(b"#msi-cells")]),
     },
     Check {
-        name: "mux_controls_property",
+        name: "msi_parent_property",
         severity: Severity::Warning,
-        prerequisites: &[65, 10],
-        made_before: &[65, 0, 9, 10],
-        finds: Finds::Links(
-            Among::With(b"mux-controls"),
-            &[LinkRule::Specifiers(
-                b"mux-controls",
-                Listing {
-                    cells: b"#mux-control-cells",
-                    optional: false,
-                },
-            )],
+        prerequisites: &[62, 10],
+        made_before: &[62, 0, 9, 10],
+        finds: Finds::Lists(
+            Listed::Named(b"msi-parent"),
+            Listing {
+                cells: b"#msi-cells",
+                optional: true,
+            },
         ),
     },
     Check {
@@ -274,25 +231,22 @@ static PART_5: [Check; PART] = [
             &[Rule::IsCell(b"#mux-control-cells")],
         ),
     },
+    Check {
+        name: "mux_controls_property",
+        severity: Severity::Warning,
+        prerequisites: &[64, 10],
+        made_before: &[64, 0, 9, 10],
+        finds: Finds::Lists(
+            Listed::Named(b"mux-controls"),
+            Listing {
+                cells: b"#mux-control-cells",
+                optional: false,
+            },
+        ),
+    },
 ];
 
 static PART_6: [Check; PART] = [
-    Check {
-        name: "phys_property",
-        severity: Severity::Warning,
-        prerequisites: &[67, 10],
-        made_before: &[67, 0, 9, 10],
-        finds: Finds::Links(
-            Among::With(b"phys"),
-            &[LinkRule::Specifiers(
-                b"phys",
-                Listing {
-                    cells: b"#phy-cells",
-                    optional: false,
-                },
-            )],
-        ),
-    },
     Check {
         name: "phys_is_cell",
         severity: Severity::Warning,
@@ -301,19 +255,16 @@ static PART_6: [Check; PART] = [
         finds: Finds::Node(Among::With(b"#phy-cells"), &[Rule::IsCell(b"#phy-cells")]),
     },
     Check {
-        name: "power_domains_property",
+        name: "phys_property",
         severity: Severity::Warning,
-        prerequisites: &[69, 10],
-        made_before: &[69, 0, 9, 10],
-        finds: Finds::Links(
-            Among::With(b"power-domains"),
-            &[LinkRule::Specifiers(
-                b"power-domains",
-                Listing {
-                    cells: b"#power-domain-cells",
-                    optional: false,
-                },
-            )],
+        prerequisites: &[66, 10],
+        made_before: &[66, 0, 9, 10],
+        finds: Finds::Lists(
+            Listed::Named(b"phys"),
+            Listing {
+                cells: b"#phy-cells",
+                optional: false,
+            },
         ),
     },
     Check {
@@ -327,19 +278,16 @@ static PART_6: [Check; PART] = [
         ),
     },
     Check {
-        name: "pwms_property",
+        name: "power_domains_property",
         severity: Severity::Warning,
-        prerequisites: &[71, 10],
-        made_before: &[71, 0, 9, 10],
-        finds: Finds::Links(
-            Among::With(b"pwms"),
-            &[LinkRule::Specifiers(
-                b"pwms",
-                Listing {
-                    cells: b"#pwm-cells",
-                    optional: false,
-                },
-            )],
+        prerequisites: &[68, 10],
+        made_before: &[68, 0, 9, 10],
+        finds: Finds::Lists(
+            Listed::Named(b"power-domains"),
+            Listing {
+                cells: b"#power-domain-cells",
+                optional: false,
+            },
         ),
     },
     Check {
@@ -350,19 +298,16 @@ static PART_6: [Check; PART] = [
         finds: Finds::Node(Among::With(b"#pwm-cells"), &[Rule::IsCell(b"#pwm-cells")]),
     },
     Check {
-        name: "resets_property",
+        name: "pwms_property",
         severity: Severity::Warning,
-        prerequisites: &[73, 10],
-        made_before: &[73, 0, 9, 10],
-        finds: Finds::Links(
-            Among::With(b"resets"),
-            &[LinkRule::Specifiers(
-                b"resets",
-                Listing {
-                    cells: b"#reset-cells",
-                    optional: false,
-                },
-            )],
+        prerequisites: &[70, 10],
+        made_before: &[70, 0, 9, 10],
+        finds: Finds::Lists(
+            Listed::Named(b"pwms"),
+            Listing {
+                cells: b"#pwm-cells",
+                optional: false,
+            },
         ),
     },
     Check {
@@ -376,19 +321,16 @@ static PART_6: [Check; PART] = [
         ),
     },
     Check {
-        name: "sound_dai_property",
+        name: "resets_property",
         severity: Severity::Warning,
-        prerequisites: &[75, 10],
-        made_before: &[75, 0, 9, 10],
-        finds: Finds::Links(
-            Among::With(b"sound-dai"),
-            &[LinkRule::Specifiers(
-                b"sound-dai",
-                Listing {
-                    cells: b"#sound-dai-cells",
-                    optional: false,
-                },
-            )],
+        prerequisites: &[72, 10],
+        made_before: &[72, 0, 9, 10],
+        finds: Finds::Lists(
+            Listed::Named(b"resets"),
+            Listing {
+                cells: b"#reset-cells",
+                optional: false,
+            },
         ),
     },
     Check {
@@ -402,19 +344,26 @@ static PART_6: [Check; PART] = [
         ),
     },
     Check {
-        name: "thermal_sensors_property",
+        name: "sound_dai_property",
         severity: Severity::Warning,
-        prerequisites: &[77, 10],
-        made_before: &[77, 0, 9, 10],
-        finds: Finds::Links(
-            Among::With(b"thermal-sensors"),
-            &[LinkRule::Specifiers(
-                b"thermal-sensors",
-                Listing {
-                    cells: b"#thermal-sensor-cells",
-                    optional: false,
-                },
-            )],
+        prerequisites: &[74, 10],
+        made_before: &[74, 0, 9, 10],
+        finds: Finds::Lists(
+            Listed::Named(b"sound-dai"),
+            Listing {
+                cells: b"#sound-dai-cells",
+                optional: false,
+            },
+        ),
+    },
+    Check {
+        name: "thermal_sensors_is_cell",
+        severity: Severity::Warning,
+        prerequisites: &[],
+        made_before: &[],
+        finds: Finds::Node(
+            Among::With(b"#thermal-sensor-cells"),
+            &[Rule::IsCell(b"#thermal-sensor-cells")],
         ),
     },
 ];

@@ -233,13 +233,6 @@ static PART_2: [Check; PART] = [
         finds: Finds::Node(Among::All, &[Rule::Unit]),
     },
     Check {
-        name: "unit_address_format",
-        severity: Severity::Warning,
-        prerequisites: &[3, 29, 32],
-        made_before: &[2, 3, 15, 13, 14, 23, 29, 19, 32],
-        finds: Finds::Node(Among::WithUnit, &[Rule::LeadingHex, Rule::LeadingZero]),
-    },
-    Check {
         name: "pci_bridge",
         severity: Severity::Warning,
         prerequisites: &[15, 23],
@@ -258,10 +251,24 @@ static PART_2: [Check; PART] = [
         ),
     },
     Check {
+        name: "simple_bus_bridge",
+        severity: Severity::Warning,
+        prerequisites: &[23, 19],
+        made_before: &[13, 14, 23, 19],
+        finds: Finds::Nothing,
+    },
+    Check {
+        name: "unit_address_format",
+        severity: Severity::Warning,
+        prerequisites: &[3, 28, 29],
+        made_before: &[2, 3, 15, 13, 14, 23, 28, 19, 29],
+        finds: Finds::Node(Among::WithUnit, &[Rule::LeadingHex, Rule::LeadingZero]),
+    },
+    Check {
         name: "pci_device_reg",
         severity: Severity::Warning,
-        prerequisites: &[24, 29],
-        made_before: &[13, 14, 23, 24, 15, 29],
+        prerequisites: &[24, 28],
+        made_before: &[13, 14, 23, 24, 15, 28],
         finds: Finds::Node(
             Among::With(b"reg"),
             &[
@@ -275,16 +282,9 @@ static PART_2: [Check; PART] = [
     Check {
         name: "pci_device_bus_num",
         severity: Severity::Warning,
-        prerequisites: &[24, 29],
-        made_before: &[13, 14, 23, 24, 15, 29],
+        prerequisites: &[24, 28],
+        made_before: &[13, 14, 23, 24, 15, 28],
         finds: Finds::Node(Among::With(b"reg"), &[Rule::PciBus]),
-    },
-    Check {
-        name: "simple_bus_bridge",
-        severity: Severity::Warning,
-        prerequisites: &[23, 19],
-        made_before: &[13, 14, 23, 19],
-        finds: Finds::Nothing,
     },
 ];
 
@@ -292,8 +292,8 @@ static PART_3: [Check; PART] = [
     Check {
         name: "simple_bus_reg",
         severity: Severity::Warning,
-        prerequisites: &[24, 32],
-        made_before: &[13, 14, 23, 24, 19, 32],
+        prerequisites: &[24, 29],
+        made_before: &[13, 14, 23, 24, 19, 29],
         finds: Finds::Node(Among::All, &[Rule::SimpleAddress]),
     },
     Check {

@@ -9,4 +9,4 @@ use Rattle.dt_edit.specs.Standing.{IsStandingOf}
 
 -- all that stands, unless a label stands at two nodes
 abbrev pub Leaves : DtcTree → Result Standing EditError → Type 0
-Leaves t result = MatchResult result (λ s. (with_labels_once t ≡ Ok t) × IsStandingOf s t) (λ e. IsFault e (with_labels_once t))
+Leaves t result = MatchResult result (λ s. (with_labels_once t ≡ Ok t) × IsStandingOf s t) (λ e. IsFault e.kind (with_labels_once t))

@@ -57,7 +57,7 @@ abbrev pub Passes : {A : Type 0} → Entry (List Piece) → LiveTree Parts → L
 Passes entry old new node stamp made result = (x : Progress (List Piece)) → IsAt x old node stamp made.count
     → MatchResult result
     (λ _. (y : Progress (List Piece)) × (after_entry entry (node_path old node) x ≡ Ok y) × IsAt y new node stamp made.count)
-    (λ e. IsFault e (after_entry entry (node_path old node) x))
+    (λ e. IsFault e.kind (after_entry entry (node_path old node) x))
 
 -- ---- what stays
 -- a node that takes a body: it stands in a sound tree, so many levels deep

@@ -8,7 +8,7 @@ use Rattle.dt_edit.specs.Fragments.{first_names, target_values}
 
 -- the values of the targets, read
 abbrev pub values_of : Fragments → List (List Piece)
-values_of f = map (λ v. map part_view v.items) f.targets.items
+values_of f = map (λ v. map part_view v.parts.items) f.targets.items
 
 -- as many names as targets, each the next
 abbrev pub IsNamed : Fragments → Type 0

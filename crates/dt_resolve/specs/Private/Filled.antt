@@ -21,7 +21,7 @@ use Rattle.dt_resolve.specs.Resolution.{IsResolved}
 abbrev pub Resolves : Bool → Bool → LiveTree Parts → Result Resolution BuildError → Type 0
 Resolves symbols plugin d result = MatchResult result
     (λ all. (es : List (Definition (List Found))) × IsResolved symbols plugin d es all)
-    (λ e. IsFault e (if names_taken symbols plugin (tree_of d) then Err meaning.ReservedName else then_do (given_of (in_order (tree_of d)) []) (λ _. references plugin (tree_of d))))
+    (λ e. IsFault e.kind (if names_taken symbols plugin (tree_of d) then Err meaning.ReservedName else then_do (given_of (in_order (tree_of d)) []) (λ _. references plugin (tree_of d))))
 
 -- a tree with its order and what was found in it
 abbrev pub whole : Bool → LiveTree Parts → Preorder Parts × Resolution → Prepared

@@ -61,7 +61,7 @@ pub record IsNumbered (plugin : Bool) (d : LiveTree Parts) (x : Numbered) : Type
   pub numbered : AreStanding d.nodes.items x.of_cells.items
 
 abbrev pub NumbersCells : Bool → LiveTree Parts → Result Numbered BuildError → Type 0
-NumbersCells plugin d result = MatchResult result (IsNumbered plugin d) (λ e. IsFault e (then_do (references plugin (tree_of d)) (λ es. given_by_both es [])))
+NumbersCells plugin d result = MatchResult result (IsNumbered plugin d) (λ e. IsFault e.kind (then_do (references plugin (tree_of d)) (λ es. given_by_both es [])))
 
 -- ---- what is left
 abbrev pub paths_in : LiveTree Parts → List ℕ → List Path
@@ -92,7 +92,7 @@ pub record IsFixed (plugin : Bool) (d : LiveTree Parts) (x : Rest) (anew : Optio
   pub among : AreAmong d x.targets.items (targets_anew x.targets.items anew)
 
 abbrev pub FindsAnew : Bool → List ℕ → LiveTree Parts → Rest → Result (Option (Vec (Option ℕ) Global)) BuildError → Type 0
-FindsAnew plugin gone d x result = IsAsFound plugin gone d x → MatchResult result (IsFixed plugin d x) (λ e. IsFault e (fixed_up plugin (tree_of d)))
+FindsAnew plugin gone d x result = IsAsFound plugin gone d x → MatchResult result (IsFixed plugin d x) (λ e. IsFault e.kind (fixed_up plugin (tree_of d)))
 
 -- ---- all numbers that nodes get
 abbrev pub all_numbers : LiveTree Parts → List ℕ → List Bool → List NodePhandle → List NodePhandle → Bool → List PathPhandle
@@ -123,4 +123,4 @@ whole d x = record {
 abbrev pub GathersIn : Bool → Bool → DtcTree → LiveTree Parts → Result Gathering BuildError → Type 0
 GathersIn symbols plugin t d result = MatchResult result
     (λ x. (meant : meaning.Gathered) × (all_gathered symbols plugin t ≡ Ok meant) × IsGathered plugin t meant (whole d x))
-    (λ e. IsFault e (all_gathered symbols plugin t))
+    (λ e. IsFault e.kind (all_gathered symbols plugin t))

@@ -11,6 +11,7 @@ use Rattle.dt_live.specs.declared.preorder.properties.NodeProperty.{NodeProperty
 use Rattle.dt_live.specs.Rows.{node_path, path_of, stands}
 use Rattle.dt_edit.specs.Said.{Parts}
 use Rattle.dt_resolve.specs.declared.error.BuildError.{BuildError}
+use Rattle.dt_resolve.specs.declared.error.BuildErrorKind.{BuildErrorKind}
 use Rattle.dt_resolve.specs.declared.given_by_both.Numbers.{Numbers}
 use Rattle.dt_resolve.specs.declared.node_phandles.Given.{Given}
 use Rattle.dt_resolve.specs.BuildFault.{IsFault}
@@ -41,14 +42,14 @@ abbrev pub given_by_number : Path → Option ℕ → List PathPhandle → Result
 given_by_number p None xs = Ok xs
 given_by_number p (Some n) xs = with_given p (Some n) xs
 
-abbrev pub IsNumber : LiveTree Parts → ℕ → List Part → List (Option ℕ) → Result (Option ℕ) BuildError → Type 0
+abbrev pub IsNumber : LiveTree Parts → ℕ → List Part → List (Option ℕ) → Result (Option ℕ) BuildErrorKind → Type 0
 IsNumber d n v ts result = (xs : List PathPhandle) → MatchResult result
     (λ o. given_by_value (node_path d n) (founds_of (node_path d) v ts) xs ≡ given_by_number (node_path d n) o xs)
-    (λ e. IsFault e (given_by_value (node_path d n) (founds_of (node_path d) v ts) xs))
+    (λ kind. IsFault kind (given_by_value (node_path d n) (founds_of (node_path d) v ts) xs))
 
 -- these are the phandles, or the call has the fault
 abbrev pub GivesNumbers : {A : Type 0} → List NodeRow → Result (List PathPhandle) Fault → (A → Given) → Result A BuildError → Type 0
-GivesNumbers rows meant new result = MatchResult result (λ a. meant ≡ Ok (phandles_of rows (new a))) (λ e. IsFault e meant)
+GivesNumbers rows meant new result = MatchResult result (λ a. meant ≡ Ok (phandles_of rows (new a))) (λ e. IsFault e.kind meant)
 
 -- a node is given one more
 abbrev pub GivesOne : {A : Type 0} → LiveTree Parts → ℕ → ℕ → Given → Given → Result A BuildError → Type 0

@@ -77,7 +77,7 @@ part_targets (x ∷ xs) ts = (if uses x == 1 then slice_index_or ts 0 None ∷ [
 -- those of the properties whose nodes pass
 abbrev pub left_targets : (ℕ → Bool) → List (NodeProperty Parts) → List (Option ℕ) → List (Option ℕ)
 left_targets test [] ts = []
-left_targets test (x ∷ xs) ts = (if test x.node then part_targets x.value.now ts else []) ++ left_targets test xs (drop (all_uses x.value.now) ts)
+left_targets test (x ∷ xs) ts = (if test x.node then part_targets x.value.now.parts.items ts else []) ++ left_targets test xs (drop (all_uses x.value.now.parts.items) ts)
 
 abbrev pub standing_targets : LiveTree Parts → List (NodeProperty Parts) → List (Option ℕ) → List (Option ℕ)
 standing_targets d xs ts = left_targets (is_standing d) xs ts

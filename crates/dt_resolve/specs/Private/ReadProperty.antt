@@ -1,14 +1,12 @@
 -- Properties in preorder.
 use Rattle.std.specs.Prelude.{List}
-use denote.Ref.{Bor}
-use Rattle.dt_source.specs.declared.tree.Part.{Part}
 use Rattle.dt_meaning.specs.Syntax.{Piece}
 use Rattle.dt_meaning.specs.Edits.{Definition, definition}
 use Rattle.dt_live.specs.declared.live_tree.NodeRow.{NodeRow}
 use Rattle.dt_live.specs.Rows.{path_of}
 use Rattle.dt_live.specs.declared.preorder.properties.NodeProperty.{NodeProperty}
-use Rattle.dt_edit.specs.Said.{pieces}
+use Rattle.dt_edit.specs.Said.{Parts, pieces}
 
 -- with its value read
-abbrev pub read_property : List NodeRow → NodeProperty (Bor (List Part)) → Definition (List Piece)
+abbrev pub read_property : List NodeRow → NodeProperty Parts → Definition (List Piece)
 read_property rows x = definition (path_of rows x.node) x.name.now (pieces x.value)

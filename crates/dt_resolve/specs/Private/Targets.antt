@@ -37,10 +37,10 @@ pub record Adds (d : LiveTree Parts) (fs : List Found) (old new : Targets) : Typ
 
 -- ---- what a call finds, or the fault that it has
 abbrev pub GivesCell : LiveTree Parts → Result Found Fault → Result (Option ℕ) BuildError → Type 0
-GivesCell d meant result = MatchResult result (λ cell. IsCell d cell meant) (λ e. IsFault e meant)
+GivesCell d meant result = MatchResult result (λ cell. IsCell d cell meant) (λ e. IsFault e.kind meant)
 
 abbrev pub Finds : {A B : Type 0} → LiveTree Parts → Result A Fault → (A → List Found) → Targets → Targets → Result B BuildError → Type 0
-Finds {A} d meant founds old new result = MatchResult result (λ _. (f : A) × (meant ≡ Ok f) × Adds d (founds f) old new) (λ e. IsFault e meant)
+Finds {A} d meant founds old new result = MatchResult result (λ _. (f : A) × (meant ≡ Ok f) × Adds d (founds f) old new) (λ e. IsFault e.kind meant)
 
 abbrev pub FindsPart : {B : Type 0} → Bool → LiveTree Parts → Part → Targets → Targets → Result B BuildError → Type 0
 FindsPart plugin d part old new result = Finds d (found_in plugin (tree_of d) (part_view part)) (λ f. f ∷ []) old new result
@@ -49,7 +49,7 @@ abbrev pub FindsValue : {B : Type 0} → Bool → LiveTree Parts → List Part �
 FindsValue plugin d value old new result = Finds d (each (found_in plugin (tree_of d)) (map part_view value)) (λ fs. fs) old new result
 
 abbrev pub FindsAll : Result (List (Definition (List Found))) Fault → LiveTree Parts → Result Targets BuildError → Type 0
-FindsAll meant d result = MatchResult result (λ t. (es : List (Definition (List Found))) × (meant ≡ Ok es) × AreFound d es t) (λ e. IsFault e meant)
+FindsAll meant d result = MatchResult result (λ t. (es : List (Definition (List Found))) × (meant ≡ Ok es) × AreFound d es t) (λ e. IsFault e.kind meant)
 
 abbrev pub FindsTargets : Bool → LiveTree Parts → List (NodeProperty Parts) → Result Targets BuildError → Type 0
 FindsTargets plugin d xs result = FindsAll (each (found_value plugin (tree_of d)) (map (read_property d.nodes.items) xs)) d result

@@ -34,7 +34,7 @@ HasTaken rows given = (n : ℕ) → is_taken given.taken n ≡ has_phandle n (ph
 abbrev pub Notes : {A : Type 0} → List NodeRow → List (NodeProperty Parts) → List PathPhandle → (A → Given) → Result A BuildError → Type 0
 Notes rows xs old new result = MatchResult result
     (λ a. given_of (map (read_property rows) xs) old ≡ Ok (phandles_of rows (new a)))
-    (λ e. IsFault e (given_of (map (read_property rows) xs) old))
+    (λ e. IsFault e.kind (given_of (map (read_property rows) xs) old))
 
 -- ---- wanted
 -- each once, where it is first, without those that are known

@@ -232,8 +232,8 @@ fn answers_what_a_source_comes_to(rt: HostRuntime) {
         panic!(rt; "it is whole");
     };
     assert_eq!(rt; text.as_slice(), b"/dts-v1/; / { };".as_slice());
-    let blob = answer.expect(&rt, "a blob");
-    assert_eq!(rt; blob.as_slice(), BLOB);
+    let made = answer.expect(&rt, "a blob");
+    assert_eq!(rt; made.blob.as_slice(), BLOB);
     let Outcome::Short(shortfall) = outcome_of(rt.alloc(), hasher, b"/include/ \"a\"") else {
         panic!(rt; "the file isn't there");
     };
@@ -263,6 +263,7 @@ fn counts_lines_as_the_user_does(rt: HostRuntime) {
         number: 10,
         name: "Syntax",
         position: Position::Line(4),
+        culprit: None,
     };
     let told = in_user_file(b"a.dts", text, fault);
     assert_eq!(rt; told.number, 10);

@@ -17,6 +17,10 @@ const FILES: Files = &[
     ("board.plan", b"/clk fixed ok\n/uart ns ok /clk\n"),
     ("early.schedule", b"begin /uart\nfinish /uart settled\n"),
     ("late.schedule", b"begin /clk\n"),
+    (
+        "several.dts",
+        b"/dts-v1/;\n/ {\n\ta = <08>;\n\tb = <1 2;\n\tc = <1>\n\td = <(1 / 0)>;\n};\n",
+    ),
     ("short.dtb", b"\xd0\x0d\xfe\xed"),
     ("bad.drivers", b"driver ns ns16550a\ndriver\n"),
     // the blob of `/ { };`
@@ -42,7 +46,17 @@ const NO_OVERLAY: &str =
 const BAD_DRIVERS: &str =
     "error 50 BadLine line 2\nbad.drivers:2:7: the line ends, and more must follow\n  |\n2 | driver\n  |       ^\n  = the form is `driver NAME COMPATIBLE..`\n";
 
+/// Words that can't follow are told first. Values are told behind them alone, so 14 in line 3 isn't.
+const SEVERAL: &str =
+    "error 10 Syntax line 4\nseveral.dts:4:10: `;` can't stand here\n  |\n4 | \tb = <1 2;\n  | \t        ^\n  = in /, property b\n\nerror 10 Syntax line 6\nseveral.dts:5:9: expected `;`\n  |\n5 | \tc = <1>\n  | \t       ^\n  = in /, property c\n";
+
 const REFUSALS: &[Row] = &[
+    (
+        &["dtman", "compile", "-v", "several.dts", "out"],
+        1,
+        "",
+        SEVERAL,
+    ),
     (
         &["dtman", "compile", "board.i", "out"],
         1,

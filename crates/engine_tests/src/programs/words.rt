@@ -28,7 +28,26 @@ fn reads_the_command_line(rt: HostRuntime) {
     );
     let words = ["dtman", "dump", "board.dtb"];
     let dump = read(rt.alloc(), words.as_slice());
-    assert!(rt; matches!(dump, Ok(Command::Dump { blob: "board.dtb" })));
+    assert!(rt;
+        matches!(
+            dump,
+            Ok(Command::Dump {
+                blob: "board.dtb",
+                labels: false
+            })
+        )
+    );
+    let words = ["dtman", "dump", "--labels", "board.dtb"];
+    let labelled = read(rt.alloc(), words.as_slice());
+    assert!(rt;
+        matches!(
+            labelled,
+            Ok(Command::Dump {
+                blob: "board.dtb",
+                labels: true
+            })
+        )
+    );
     let words = ["dtman", "overlay", "base.dtb", "over.dtbo", "out.dtb"];
     let overlay = read(rt.alloc(), words.as_slice());
     assert!(rt;

@@ -7,6 +7,6 @@ standing_tree-requires-clause-stands c =
     let read = c.in-Ok.ensures in
     record { tree = read.0; edited = read.1; stands = read.2 }
 
-pub returns-in-Err : goal.returns-in-Err
-returns-in-Err c =
-    edits-refused c.args.symbols (meaning_of c.args.source.now) c.in-Err.error c.from.result c.from.ensures c.in-Err.ensures
+pub returns-in-Err-clause-tree : goal.returns-in-Err-clause-tree
+returns-in-Err-clause-tree c =
+    edits-refused c.args.symbols (meaning_of c.args.source.now) c.in-Err.error.kind c.from.result.kind c.from.ensures c.in-Err.ensures

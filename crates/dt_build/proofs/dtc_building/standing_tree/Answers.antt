@@ -17,7 +17,7 @@ gathered_tree-requires c =
     let g = c.in-Ok.ensures r.tree r.stands in
     gathered-of c.args.symbols (meaning_of c.args.source.now) c.requires.lawful r g.0 g.1 c.in-Ok.gathered g.2
 
-pub returns-in-Err : goal.returns-in-Err
-returns-in-Err c =
+pub returns-in-Err-clause-tree : goal.returns-in-Err-clause-tree
+returns-in-Err-clause-tree c =
     let r = c.requires.stands in
-    gather-refused c.args.symbols (meaning_of c.args.source.now) r.tree r.edited c.in-Err.error (c.in-Err.ensures r.tree r.stands)
+    gather-refused c.args.symbols (meaning_of c.args.source.now) r.tree r.edited c.in-Err.error.kind (c.in-Err.ensures r.tree r.stands)

@@ -1,8 +1,9 @@
-use Rattle.std.proofs.Common.{◌≡◌, ◌+◌, ◌<◌, ◌≤◌, ◌++◌, List, ℕ, Option, length, get_or, map, sym, ap, ap₂, ◌∙◌, subst, append-nil, arith}
+use Rattle.std.proofs.Common.{◌≡◌, ◌+◌, ◌<◌, ◌≤◌, ◌++◌, List, ℕ, Option, length, drop, get_or, map, sym, ap, ap₂, ◌∙◌, subst, append-nil, arith}
 use Rattle.std.specs.Prelude.{All}
 use Rattle.std.proofs.lemmas.List.{drop_all}
 use Rattle.dt_meaning.specs.Fixups.{sites}
 use Rattle.dt_meaning.specs.Resolved.{when}
+use Rattle.dt_source.specs.declared.tree.Part.{Part}
 use Rattle.dt_live.specs.Rows.{IsNode, node_path}
 use Rattle.dt_live.specs.declared.preorder.properties.NodeProperty.{NodeProperty}
 use Rattle.dt_edit.specs.Said.{Parts}
@@ -76,11 +77,12 @@ loop-property-preserved c =
     let at : x ≡ get_or p.in_preorder.properties.items k x = c.index-properties-property.is ∙ ap (λ (ys : List (NodeProperty Parts)). get_or ys k x) same in
     let ts = c.loop-property.targets.now in
     let us = c.targets_behind-targets.result.now in
+    let behind = c.targets_behind-targets.ensures ∙ ap (λ (ps : List Part). drop (all_uses ps) ts) c.as_slice.ensures.value in
     record {
-      known = all-drop (IsKnown p.live) (all_uses x.value.now) ts us c.targets_behind-targets.ensures c.loop-property.invariant.known;
-      apart = λ asks i y less. all-drop (IsToldApart p.live (get_or p.in_preorder.properties.items i y).node) (all_uses x.value.now) ts us c.targets_behind-targets.ensures (c.loop-property.invariant.apart asks i y less);
+      known = all-drop (IsKnown p.live) (all_uses x.value.now.parts.items) ts us behind c.loop-property.invariant.known;
+      apart = λ asks i y less. all-drop (IsToldApart p.live (get_or p.in_preorder.properties.items i y).node) (all_uses x.value.now.parts.items) ts us behind (c.loop-property.invariant.apart asks i y less);
       places = c.in_ok-put_fixed.ensures.places;
-      sites = property-more p k x ts us (map (site_of p) c.loop-property.sites.items) (map (site_of p) c.put_fixed.new.sites.items) _ below at c.targets_behind-targets.ensures c.in_ok-put_fixed.ensures.sites c.loop-property.invariant.sites;
+      sites = property-more p k x ts us (map (site_of p) c.loop-property.sites.items) (map (site_of p) c.put_fixed.new.sites.items) _ below at behind c.in_ok-put_fixed.ensures.sites c.loop-property.invariant.sites;
     }
 
 pub returns : goal.returns

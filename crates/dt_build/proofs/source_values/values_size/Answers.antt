@@ -1,12 +1,14 @@
-use Rattle.std.proofs.Common.{◌≡◌, ◌≤◌, ◌<◌, ◌∙◌, List, ℕ, Option, ap, arith, get_or, length, subst, sym}
+use Rattle.std.proofs.Common.{◌≡◌, ◌≤◌, ◌<◌, ◌-◌, ◌^◌, ◌∙◌, List, ℕ, Option, drop, min, ap, arith, get_or, length, subst, sym}
 use Rattle.std.specs.Prelude.{All}
+use Rattle.dt_source.specs.declared.tree.Part.{Part}
+use Rattle.dt_meaning.specs.Fixups.{value_bytes}
 use Rattle.dt_live.specs.declared.preorder.properties.NodeProperty.{NodeProperty}
 use Rattle.dt_live.specs.Rows.{node_path}
 use Rattle.dt_tree_builder.specs.Sizes.{size_in}
 use Rattle.dt_edit.specs.Said.{Parts}
 use Rattle.dt_resolve.specs.Targets.{IsKnown}
 use Rattle.dt_build.specs.Private.Made.{all_phandles, plain_properties}
-use Rattle.dt_build.specs.Private.Values.{all_uses}
+use Rattle.dt_build.specs.Private.Values.{all_uses, founds_of}
 use Rattle.dt_build.proofs.SourceOrder.{source-bytes}
 use Rattle.dt_build.proofs.SourceSteps.{all-drop, made, sizes-all, sizes-more}
 use Rattle.dt_build.proofs.source_values.values_size.Goals as goal
@@ -26,14 +28,15 @@ loop-node_property-preserved c =
     let i = c.loop-node_property.node_property-index in
     let old = c.loop-node_property.left.now in
     let new = c.targets_behind-left.result.now in
-    let step = c.targets_behind-left.ensures in
+    let parts = c.as_slice-parts.ensures.value in
+    let step = c.targets_behind-left.ensures ∙ ap (λ (ps : List Part). drop (all_uses ps) old) parts in
     let same = c.as_slice-node_property-items.ensures.value in
     let below : i < length p.in_preorder.properties.items = omega (arith, c.loop-node_property-test.true, ap length same) in
     record {
-      known = all-drop (IsKnown p.live) (all_uses x.value.now) old new step c.loop-node_property.invariant.known;
+      known = all-drop (IsKnown p.live) (all_uses x.value.now.parts.items) old new step c.loop-node_property.invariant.known;
       fits = omega (arith, c.saturating_add-size.ensures);
       size = sizes-more (all_phandles p) (node_path p.live) p.in_preorder.properties.items i x old new below (c.node_property-item.is ∙ ap (λ (ys : List (NodeProperty Parts)). get_or ys i x) same) step
-          c.loop-node_property.size c.value_size.result c.saturating_add-size.result _ c.value_size.ensures c.saturating_add-size.ensures c.loop-node_property.invariant.size;
+          c.loop-node_property.size c.value_size.result c.saturating_add-size.result _ (c.value_size.ensures ∙ ap (λ (ps : List Part). min (length (value_bytes (all_phandles p) (founds_of (node_path p.live) ps old))) (2 ^ 64 - 1)) parts) c.saturating_add-size.ensures c.loop-node_property.invariant.size;
     }
 
 pub returns : goal.returns

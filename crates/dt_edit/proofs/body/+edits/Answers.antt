@@ -1,8 +1,8 @@
 use Rattle.std.proofs.Common.{rules, ◌≡◌, ◌+◌, ◌<◌, ◌∷◌, ◌==◌, ℕ, false, map, drop, length, Result, Ok, MatchResult, refl, sym, ap, ap₂, ◌∙◌, subst, add-one, arith}
 use Rattle.std.proofs.Math.Seq.{drop-cons}
 use Rattle.dt_meaning.specs.Edits.{counted}
-use Rattle.dt_source.specs.Tree.{view, views, part_view}
-use Rattle.dt_meaning.specs.Syntax.{Defines, Child}
+use Rattle.dt_source.specs.Tree.{view, views}
+use Rattle.dt_meaning.specs.Syntax.{Child}
 use Rattle.dt_meaning.specs.Statements.{Fault, begun, after_entry, after_body}
 use Rattle.dt_live.specs.Rows.{node_path, property_stamp}
 use Rattle.dt_live.proofs.Climbs.{not-true}
@@ -26,11 +26,10 @@ edit-returns-else-not-branch-clause-step t c x at =
     let p = node_path old c.args.node in
     let e = c.in_ok-set_property-in-Property.ensures in
     let name = c.in-Property.name.now in
-    let r = property-set x old c.args.node c.args.stamp c.args.made.now.count at c.set_property.new.self name c.as_slice.result
+    let r = property-set x old c.args.node c.args.stamp c.args.made.now.count at c.set_property.new.self name _
     (not-true (property_stamp old c.args.node name == c.args.stamp) (sym e.first ∙ c.if-not-branch.false)) e.state e.stamps e.others in (
       r.0,
       ap (λ s. after_entry (view s) p x) c.in-Property.is ∙ ap (λ s. after_entry s p x) (view-defines c.in-Property.name c.in-Property.value)
-          ∙ ap (λ ps. after_entry (Defines name (map part_view ps)) p x) (sym c.as_slice.ensures.value)
           ∙ r.1,
       r.2,
     )
@@ -40,23 +39,23 @@ edit-returns-in-DeleteProperty-clause-step t c x at =
     let old = c.args.live.now in
     let e = c.remove_property.ensures in
     let r = property-removed x old c.args.node c.args.stamp c.args.made.now.count at c.remove_property.new.self c.in-DeleteProperty.name.now e.state e.stamps e.others in
-    (r.0, ap (λ s. after_entry (view s) (node_path old c.args.node) x) c.in-DeleteProperty.is ∙ ap (λ s. after_entry s (node_path old c.args.node) x) (view-undefines c.in-DeleteProperty.name) ∙ r.1, r.2)
+    (r.0, ap (λ s. after_entry (view s) (node_path old c.args.node) x) c.in-DeleteProperty.is ∙ ap (λ s. after_entry s (node_path old c.args.node) x) (view-undefines c.in-DeleteProperty.at c.in-DeleteProperty.name) ∙ r.1, r.2)
 
 pub edit-returns-in-DeleteNode-clause-step : goal.edit-returns-in-DeleteNode-clause-step
 edit-returns-in-DeleteNode-clause-step t c x at =
     let old = c.args.live.now in
     let e = c.remove_child.ensures in
     let r = child-removed x old c.args.node c.args.stamp c.args.made.now.count at c.remove_child.new.self c.in-DeleteNode.name.now e.state e.stamps e.others in
-    (r.0, ap (λ s. after_entry (view s) (node_path old c.args.node) x) c.in-DeleteNode.is ∙ ap (λ s. after_entry s (node_path old c.args.node) x) (view-removes c.in-DeleteNode.name) ∙ r.1, r.2)
+    (r.0, ap (λ s. after_entry (view s) (node_path old c.args.node) x) c.in-DeleteNode.is ∙ ap (λ s. after_entry s (node_path old c.args.node) x) (view-removes c.in-DeleteNode.at c.in-DeleteNode.name) ∙ r.1, r.2)
 
 pub edit-returns-in-Node-clause-step : goal.edit-returns-in-Node-clause-step
 edit-returns-in-Node-clause-step t c x at =
     let p = node_path c.args.live.now c.args.node in
     let name = c.in-Node.name.now in
-    let same : after_entry (view c.args.statement.now) p x ≡ after_entry (child_entry c.as_slice-in-Node.result.now name c.as_slice-in-Node-2.result.now) p x =
-    ap (λ s. after_entry (view s) p x) c.in-Node.is ∙ ap (λ s. after_entry s p x) (view-child c.in-Node.omit_if_no_ref c.in-Node.labels c.in-Node.name c.in-Node.body)
-    ∙ ap₂ (λ ls ss. after_entry (Child false ls name (views ss)) p x) (sym c.as_slice-in-Node.ensures) (sym c.as_slice-in-Node-2.ensures.value) in
-    subst (λ (r : Result At Fault). MatchResult c.edit_child.result (λ _. (y : At) × (r ≡ Ok y) × IsAt y c.edit_child.new.live c.args.node c.args.stamp c.args.made.now.count) (λ e. IsFault e r)) (sym {A = Result At Fault} same)
+    let same : after_entry (view c.args.statement.now) p x ≡ after_entry (child_entry c.as_slice.result.now name c.as_slice-in-Node.result.now) p x =
+    ap (λ s. after_entry (view s) p x) c.in-Node.is ∙ ap (λ s. after_entry s p x) (view-child c.in-Node.at c.in-Node.omit_if_no_ref c.in-Node.labels c.in-Node.name c.in-Node.body)
+    ∙ ap₂ (λ ls ss. after_entry (Child false ls name (views ss)) p x) (sym c.as_slice.ensures) (sym c.as_slice-in-Node.ensures.value) in
+    subst (λ (r : Result At Fault). MatchResult c.edit_child.result (λ _. (y : At) × (r ≡ Ok y) × IsAt y c.edit_child.new.live c.args.node c.args.stamp c.args.made.now.count) (λ e. IsFault e.kind r)) (sym {A = Result At Fault} same)
     (c.edit_child.ensures.step x at)
 
 pub edit_body-loop-statement-init : goal.edit_body-loop-statement-init

@@ -16,7 +16,7 @@ returns-in-Err-clause-step c x at =
     let one = c.define_child.new.self in
     let ls = map (λ l. l.now) c.args.labels.now in
     let r = admitted ls c.args.name.now (node_path old c.args.node) x in
-    fault-error c.of_label.result _ r c.of_label.ensures
+    fault-error c.of_label.result.kind _ r c.of_label.ensures
     (label-says c.in-Err.error r (λ same. label-taken x old one one c.args.node c.args.stamp c.args.made.now.count ls c.args.name.now at c.in_ok-child.ensures.state
     (ap (λ q. meaning.give_labels ls q (state_of one)) (sym c.in_ok-child.ensures.made) ∙ c.in-Err.ensures.refused (ap (λ e. Err e) same))))
 

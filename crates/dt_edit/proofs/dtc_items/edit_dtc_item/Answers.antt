@@ -1,5 +1,5 @@
-use Rattle.std.proofs.Common.{◌≡◌, ◌≤◌, Result, map, sym, ap, ◌∙◌, subst, arith}
-use Rattle.dt_source.specs.Tree.{item_view, labels_view, part_view, target_view, views}
+use Rattle.std.proofs.Common.{◌≡◌, ◌≤◌, Result, sym, ap, ◌∙◌, subst, arith}
+use Rattle.dt_source.specs.Tree.{item_view, labels_view, target_view, views}
 use Rattle.dt_meaning.specs.Names.{fragment_name}
 use Rattle.dt_meaning.specs.Statements.{Fault}
 use Rattle.dt_meaning.specs.DtcEdits.{DtcTree}
@@ -8,7 +8,7 @@ use Rattle.dt_edit.specs.EditFault.{Gives}
 use Rattle.dt_edit.specs.Said.{pieces}
 use Rattle.dt_edit.specs.Private.DtcEdited.{placed_of}
 use Rattle.dt_edit.proofs.DtcItems.{item-begins, root-same}
-use Rattle.dt_edit.proofs.Readiness.{extension-next}
+use Rattle.dt_edit.proofs.Readiness.{extension-next, value_of}
 use Rattle.dt_edit.proofs.dtc_items.edit_dtc_item.Goals as goal
 
 pub index-requires : goal.index-requires
@@ -29,7 +29,7 @@ add_dtc_fragment-requires-clause-value c =
     let few : made ≤ c.args.extension = omega (arith, same, c.requires.counted) in
     let next = extension-next c.args.fragments.now c.args.extension made c.requires.fragments.0 c.args.item.now c.in-Extend.labels c.in-Extend.target c.in-Extend.body
     c.in-Extend.is c.requires.fragments.1 few in
-    ap (map part_view) (c.as_slice-value.ensures.value ∙ ap (λ v. v.items) c.index-then-begins.ensures) ∙ next.value c.index-then-begins.result.now
+    ap value_of c.index-value.ensures ∙ next.value c.index-value.result.now
 
 pub returns-then-begins-clause-item : goal.returns-then-begins-clause-item
 returns-then-begins-clause-item c =

@@ -72,6 +72,6 @@ returns-in-Err-clause-items c =
     let left = map item_view (drop (at + 1) items) in
     let t = placed_of c.loop-item.placed in
     let next : drop at items ≡ c.item-item.result ∷ drop (at + 1) items = drop-cons items at c.item-item.result c.loop-item-test.true ∙ ap₂ (λ a n. a ∷ drop n items) (sym c.item-item.is) (sym (add-one at)) in
-    fault-same c.in-Err.error (then_do (dtc_item plugin item t) (dtc_items plugin left)) (dtc_items plugin (map item_view items) nothing)
+    fault-same c.in-Err.error.kind (then_do (dtc_item plugin item t) (dtc_items plugin left)) (dtc_items plugin (map item_view items) nothing)
     (sym c.loop-item.invariant.rest ∙ ap (λ xs. dtc_items plugin (map item_view xs) t) next)
-    (fault-then c.in-Err.error (dtc_item plugin item t) (dtc_items plugin left) c.in-Err.ensures.item)
+    (fault-then c.in-Err.error.kind (dtc_item plugin item t) (dtc_items plugin left) c.in-Err.ensures.item)

@@ -10,7 +10,7 @@ use Rattle.dt_edit.proofs.fragments.target_value.Goals.{in-Label, in-Path+in_ok-
 
 pub returns : goal.returns
 returns c =
-    let whole : c.push.new.self.items ≡ c.match-target.part ∷ [] = c.in_ok-push.ensures.items ∙ ap (λ xs. xs ++ c.match-target.part ∷ []) c.in_ok-value.ensures.items in
+    let whole : c.push.new.self.items ≡ c.match-target.part ∷ [] = c.in_ok-push.ensures.items ∙ ap (λ xs. xs ++ c.match-target.part ∷ []) c.in_ok-parts.ensures.items in
     ap (map part_view) whole ∙ (elim c.match-target.branch [
       | in-Label w ↦ ap (λ p. part_view p ∷ []) w.part-is ∙ ap (λ t. target_value (target_view t)) (sym w.in-Label.is)
       | in-Path+in_ok-path_bytes-in-Path w ↦

@@ -1,12 +1,12 @@
-use Rattle.std.proofs.Common.{List, Result, map, sym, ap, ◌∙◌, subst, arith}
-use Rattle.dt_source.specs.Tree.{item_view, labels_view, part_view, target_view, views}
+use Rattle.std.proofs.Common.{List, Result, sym, ap, ◌∙◌, subst, arith}
+use Rattle.dt_source.specs.Tree.{item_view, labels_view, target_view, views}
 use Rattle.dt_meaning.specs.Edits.{State, counted}
 use Rattle.dt_meaning.specs.Statements.{Fault, after_fragment, after_item}
 use Rattle.dt_meaning.specs.Syntax.{Piece}
 use Rattle.dt_edit.specs.EditFault.{Gives}
 use Rattle.dt_edit.specs.Said.{tree_of}
 use Rattle.dt_edit.proofs.FragmentSteps.{item-adds}
-use Rattle.dt_edit.proofs.Readiness.{extension-next}
+use Rattle.dt_edit.proofs.Readiness.{extension-next, value_of}
 use Rattle.dt_edit.proofs.items.edit_item.Goals as goal
 
 pub index-requires : goal.index-requires
@@ -25,7 +25,7 @@ pub add_fragment-requires-clause-value : goal.add_fragment-requires-clause-value
 add_fragment-requires-clause-value c =
     let next = extension-next c.args.fragments.now c.args.extension c.args.made.now.count c.requires.ready.0 c.args.item.now c.in-Extend.labels c.in-Extend.target c.in-Extend.body
     c.in-Extend.is c.requires.ready.1 c.requires.counted in
-    ap (map part_view) (c.as_slice-value.ensures.value ∙ ap (λ v. v.items) c.index-then-makes_fragment.ensures) ∙ next.value c.index-then-makes_fragment.result.now
+    ap value_of c.index-value.ensures ∙ next.value c.index-value.result.now
 
 pub returns-then-makes_fragment-clause-item : goal.returns-then-makes_fragment-clause-item
 returns-then-makes_fragment-clause-item c =

@@ -61,6 +61,6 @@ returns-in-Err-clause-items c =
     let left = map item_view (drop (at + 1) items) in
     let state = counted c.loop-item.made.count (tree_of c.loop-item.live) in
     let next : drop at items ≡ c.item-item.result ∷ drop (at + 1) items = drop-cons items at c.item-item.result c.loop-item-test.true ∙ ap₂ (λ a n. a ∷ drop n items) (sym c.item-item.is) (sym (add-one at)) in
-    fault-same c.in-Err.error (then_do (after_item plugin item state) (after_items plugin left)) (after_items plugin (map item_view items) (tree_of c.args.live.now))
+    fault-same c.in-Err.error.kind (then_do (after_item plugin item state) (after_items plugin left)) (after_items plugin (map item_view items) (tree_of c.args.live.now))
     (sym c.loop-item.invariant.rest ∙ ap (λ xs. after_items plugin (map item_view xs) state) next)
-    (fault-then c.in-Err.error (after_item plugin item state) (after_items plugin left) c.in-Err.ensures.item)
+    (fault-then c.in-Err.error.kind (after_item plugin item state) (after_items plugin left) c.in-Err.ensures.item)

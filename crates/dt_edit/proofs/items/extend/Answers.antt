@@ -20,7 +20,7 @@ returns-in-Err-clause-item c =
     let body = views c.args.body.now in
     let p = node_path old c.in_ok-node.node in
     let r = after_item false (Extends ls t body) (counted made (tree_of old)) in
-    fault-error c.of_label.result _ r c.of_label.ensures
+    fault-error c.of_label.result.kind _ r c.of_label.ensures
     (label-says c.in-Err.error r (λ same. extend-labelled made old t ls body p c.in_ok-node.ensures.node
     (ap (λ xs. meaning.give_labels xs p (state_of old)) (sym c.as_slice.ensures) ∙ c.in-Err.ensures.refused (ap (λ e. Err e) same))))
 

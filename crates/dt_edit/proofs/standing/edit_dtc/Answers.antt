@@ -23,6 +23,6 @@ returns-in-Ok c =
 pub returns-in-Err : goal.returns-in-Err
 returns-in-Err c =
     let m = meaning_of c.args.source.now in
-    edits-refused m c.in-Err.error
-    (fault-same c.in-Err.error (dtc_items m.plugin (map item_view c.as_slice-items.result.now) nothing) (dtc_items m.plugin m.items nothing)
+    edits-refused m c.in-Err.error.kind
+    (fault-same c.in-Err.error.kind (dtc_items m.plugin (map item_view c.as_slice-items.result.now) nothing) (dtc_items m.plugin m.items nothing)
     (ap (λ (xs : List Item). dtc_items m.plugin (map item_view xs) nothing) (sym c.as_slice-items.ensures.value)) c.in-Err.ensures.items)

@@ -3,7 +3,7 @@ use Rattle.dt_meaning.specs.DtcStatements.{with_labels_once}
 use Rattle.dt_edit.specs.Said.{pieces}
 use Rattle.dt_edit.specs.Private.DtcEdited.{placed_of}
 use Rattle.dt_edit.proofs.AllRead.{labels-once, labels-twice}
-use Rattle.dt_edit.proofs.Faults.{fault-error, label-says}
+use Rattle.dt_edit.proofs.Faults.{fault-error, stand-says}
 use Rattle.dt_edit.proofs.standing.standing_of.Goals as goal
 
 pub returns-in_ok-boot_processor-in-Ok : goal.returns-in_ok-boot_processor-in-Ok
@@ -24,5 +24,5 @@ returns-in_ok-boot_processor-in-Ok c =
 pub returns-in-Err : goal.returns-in-Err
 returns-in-Err c =
     let t = placed_of c.args.placed.now in
-    fault-error _ _ (with_labels_once t) c.of_label.ensures
-    (label-says c.in-Err.error (with_labels_once t) (λ is. labels-twice t (c.in-Err.ensures.refused (ap Err is))))
+    fault-error _ _ (with_labels_once t) c.of_stand.ensures
+    (stand-says c.in-Err.error (with_labels_once t) (λ at is. labels-twice t (c.in-Err.ensures.refused at (ap Err is))))

@@ -1,8 +1,10 @@
-use Rattle.std.proofs.Common.{◌≤◌, ◌+◌}
+use Rattle.std.proofs.Common.{◌≡◌, ◌++◌, drop, map}
+use Rattle.dt_place.specs.Positions.{IsCursor, site_at, site_of}
 use Rattle.dt_place.proofs.position.positions_of.Given as goal
 
-abbrev pub invariant-loop-i : goal.invariant-loop-i
-invariant-loop-i l = record {
-  within : l.start ≤ l.i;
-  near : l.origin.line ≤ 1000000000 + l.i;
+-- those so far and those that are left are all
+abbrev pub invariant-loop-place : goal.invariant-loop-place
+invariant-loop-place l = record {
+  read : IsCursor l.text l.cursor.origin l.cursor.start l.cursor.end;
+  told : map site_of l.found.items ++ map (site_at l.text) (drop l.place-index l.places) ≡ map (site_at l.text) l.places;
 }

@@ -1,4 +1,4 @@
-use Rattle.std.proofs.Common.{◌∙◌, ◌∷◌, [], List, Option, sym, ap, subst}
+use Rattle.std.proofs.Common.{◌∙◌, ◌∷◌, [], List, sym, ap, subst}
 use Rattle.dt_source.specs.declared.tree.Part.{Part}
 use Rattle.dt_live.specs.Rows.{node_path}
 use Rattle.dt_resolve.specs.Founds.{founds_of}

@@ -33,5 +33,5 @@ returns-in-Err c found =
     let xs = c.args.rest.now.in_preorder.properties.items in
     let slice = c.as_slice.result.now in
     let read = ap (map (read_property d.nodes.items)) c.as_slice.ensures.value ∙ read-order d xs c.requires.order.properties in
-    fixed-fault c.args.plugin (tree_of d) c.in-Err.error c.if-not-plugin.false
-    (fault-same c.in-Err.error (each (found_value true (tree_of d)) (map (read_property d.nodes.items) slice)) (references true (tree_of d)) (ap (each (found_value true (tree_of d))) (sym read)) c.in-Err.ensures.targets)
+    fixed-fault c.args.plugin (tree_of d) c.in-Err.error.kind c.if-not-plugin.false
+    (fault-same c.in-Err.error.kind (each (found_value true (tree_of d)) (map (read_property d.nodes.items) slice)) (references true (tree_of d)) (ap (each (found_value true (tree_of d))) (sym read)) c.in-Err.ensures.targets)

@@ -1,4 +1,4 @@
-use Rattle.std.proofs.Common.{◌≡◌, ◌∙◌, ℕ, Bool, List, Option, sym, ap, ap₂, subst}
+use Rattle.std.proofs.Common.{◌≡◌, ◌∙◌, ℕ, Bool, List, Option, is_some, sym, ap, ap₂, subst}
 use Rattle.std.specs.Prelude.{All}
 use Rattle.std.specs.List.{list_any}
 use Rattle.dt_live.proofs.Each.{Each, each-all, each-of}
@@ -11,7 +11,7 @@ use Rattle.dt_resolve.proofs.gathered.gather_in.Goals as goal
 
 pub returns-in-Err : goal.returns-in-Err
 returns-in-Err c t of =
-    cells-fault c.args.symbols c.args.plugin t c.args.standing.now of (sym c.is_name_taken.ensures ∙ c.if-is_name_taken.false) c.in-Err.error c.in-Err.ensures
+    cells-fault c.args.symbols c.args.plugin t c.args.standing.now of (sym c.name_taken.ensures ∙ ap is_some c.in_default.is) c.in-Err.error.kind c.in-Err.ensures
 
 pub leave-requires-clause-gone : goal.leave-requires-clause-gone
 leave-requires-clause-gone c =
@@ -23,20 +23,20 @@ pub returns-in-Err-find_anew : goal.returns-in-Err-find_anew
 returns-in-Err-find_anew c t of =
     let s = c.args.standing.now in
     let gone = c.as_slice-2.result.now in
-    let free = sym c.is_name_taken.ensures ∙ c.if-is_name_taken.false in
+    let free = sym c.name_taken.ensures ∙ ap is_some c.in_default.is in
     let rows : gone ≡ gone_rows s c.in-Ok.numbered.rest.targets.items c.args.symbols =
     c.as_slice-2.ensures.value ∙ c.in_ok-gone.ensures ∙ ap (λ (ts : List (Option ℕ)). gone_rows s ts c.args.symbols) c.as_slice.ensures.value in
     let each = each-of (IsThereIn s.live) gone (subst (λ (ns : List ℕ). All (IsThereIn s.live) ns) (sym (c.as_slice-2.ensures.value ∙ c.in_ok-gone.ensures)) (each-all (IsThereIn s.live) (gone_rows s c.as_slice.result.now c.args.symbols) (gone-there s c.args.symbols c.as_slice.result.now c.requires.sound))) in
     let found = as-found c.args.symbols c.args.plugin t s of free c.in-Ok.numbered c.in-Ok.ensures gone rows each c.leave.new.live c.leave.new.rest c.in_ok-leave.ensures.left in
     let again = subst (λ (ns : List ℕ). IsAsFound c.args.plugin ns c.leave.new.live c.leave.new.rest) (c.as_slice-2.ensures.value ∙ sym c.as_slice-3.ensures.value) found in
-    anew-fault c.args.symbols c.args.plugin t s of free c.in-Ok.numbered c.in-Ok.ensures gone rows each c.leave.new.live c.leave.new.rest c.in_ok-leave.ensures.left c.in-Err-find_anew.error
+    anew-fault c.args.symbols c.args.plugin t s of free c.in-Ok.numbered c.in-Ok.ensures gone rows each c.leave.new.live c.leave.new.rest c.in_ok-leave.ensures.left c.in-Err-find_anew.error.kind
     (c.in-Err-find_anew.ensures again)
 
 pub returns : goal.returns
 returns c t of =
     let s = c.args.standing.now in
     let gone = c.as_slice-2.result.now in
-    let free = sym c.is_name_taken.ensures ∙ c.if-is_name_taken.false in
+    let free = sym c.name_taken.ensures ∙ ap is_some c.in_default.is in
     let rows : gone ≡ gone_rows s c.in-Ok.numbered.rest.targets.items c.args.symbols =
     c.as_slice-2.ensures.value ∙ c.in_ok-gone.ensures ∙ ap (λ (ts : List (Option ℕ)). gone_rows s ts c.args.symbols) c.as_slice.ensures.value in
     let each = each-of (IsThereIn s.live) gone (subst (λ (ns : List ℕ). All (IsThereIn s.live) ns) (sym (c.as_slice-2.ensures.value ∙ c.in_ok-gone.ensures)) (each-all (IsThereIn s.live) (gone_rows s c.as_slice.result.now c.args.symbols) (gone-there s c.args.symbols c.as_slice.result.now c.requires.sound))) in

@@ -17,7 +17,7 @@ use Rattle.dt_resolve.proofs.gathered.number_cells.Goals as goal
 pub returns-in-Err : goal.returns-in-Err
 returns-in-Err c =
     let d = c.args.live.now in
-    let e = c.in-Err.error in
+    let e = c.in-Err.error.kind in
     let xs = c.in_ok-in_preorder.in_preorder.properties.items in
     let read = ap (map (read_property d.nodes.items)) c.as_slice-properties.ensures.value ∙ read-order d xs c.in_ok-in_preorder.ensures.properties in
     fault-then e (references c.args.plugin (tree_of d)) (λ es. given_by_both es [])
@@ -26,7 +26,7 @@ returns-in-Err c =
 pub returns-in-Err-given_by_both : goal.returns-in-Err-given_by_both
 returns-in-Err-given_by_both c =
     let d = c.args.live.now in
-    let e = c.in-Err-given_by_both.error in
+    let e = c.in-Err-given_by_both.error.kind in
     let xs = c.in_ok-in_preorder.in_preorder.properties.items in
     let slice = c.as_slice-properties.result.now in
     let ts = c.in-Ok.targets.all.items in

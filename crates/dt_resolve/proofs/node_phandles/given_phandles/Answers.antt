@@ -40,4 +40,4 @@ returns-in-Err-clause-phandles c =
     let rows = c.args.nodes.now in
     let properties = c.args.properties.now in
     given-stops (read_property rows) properties c.loop-property.property-index c.property-item.result c.loop-property-test.true c.property-item.is
-    (map (path_phandle_of rows) c.loop-property.given.phandles.items) (given_of (map (read_property rows) properties) []) c.loop-property.invariant.rest c.in-Err.error c.in-Err.ensures.step
+    (map (path_phandle_of rows) c.loop-property.given.phandles.items) (given_of (map (read_property rows) properties) []) c.loop-property.invariant.rest c.in-Err.error.kind c.in-Err.ensures.step

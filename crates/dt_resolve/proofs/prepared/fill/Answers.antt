@@ -11,7 +11,7 @@ use Rattle.dt_live.specs.Rows.{state_of}
 use Rattle.dt_edit.specs.Fragments.{AreFragments}
 use Rattle.dt_edit.specs.Said.{Parts, read, tree_of}
 use Rattle.dt_edit.proofs.Faults as edit
-use Rattle.dt_resolve.specs.declared.error.BuildError.{BuildError}
+use Rattle.dt_resolve.specs.declared.error.BuildErrorKind.{BuildErrorKind}
 use Rattle.dt_resolve.specs.BuildFault.{IsFault}
 use Rattle.dt_resolve.proofs.Faults.{edit-fault}
 use Rattle.dt_resolve.proofs.prepared.fill.Goals as goal
@@ -36,7 +36,7 @@ pub returns-in-Err : goal.returns-in-Err
 returns-in-Err c =
     let source = c.args.source.now in
     let m = meaning_of source in
-    let e = c.in-Err.error in
+    let e = c.in-Err.error.kind in
     let fault = edit.fault-same e _ (edited m) (edits source c.as_slice.result.now c.args.live.now c.as_slice.ensures.value c.requires.empty) c.in-Err.ensures.items in
-    subst (λ (b : BuildError). IsFault b (resolved c.args.symbols m)) (sym c.from.ensures)
+    subst (λ (b : BuildErrorKind). IsFault b (resolved c.args.symbols m)) (sym c.from.ensures)
     (edit-fault e (resolved c.args.symbols m) (edit.fault-then e (edited m) (resolved_state c.args.symbols m.plugin) fault))

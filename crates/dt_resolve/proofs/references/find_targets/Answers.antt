@@ -1,11 +1,15 @@
 use Rattle.std.proofs.lemmas.List.{drop_all}
-use Rattle.std.proofs.Common.{◌≡◌, ◌+◌, ap, List, [], ◌∷◌, ◌++◌, map, drop, subst}
+use Rattle.std.proofs.Common.{◌≡◌, ◌+◌, sym, ap, ◌∙◌, List, [], ◌∷◌, ◌++◌, map, drop, subst}
 use Rattle.dt_meaning.specs.Syntax.{Piece}
 use Rattle.dt_meaning.specs.Edits.{Definition, definition}
-use Rattle.dt_meaning.specs.References.{found_value}
+use Rattle.dt_tree.specs.Steps.{each}
+use Rattle.dt_source.specs.declared.tree.Part.{Part}
+use Rattle.dt_source.specs.Tree.{part_view}
+use Rattle.dt_meaning.specs.References.{found_in, found_value}
 use Rattle.dt_edit.specs.Said.{tree_of}
 use Rattle.dt_resolve.specs.Private.ReadProperty.{read_property}
 use Rattle.dt_resolve.proofs.EachSteps.{IsSoFar, so-far-all, so-far-more, so-far-stops, left-read}
+use Rattle.dt_resolve.proofs.Faults.{fault-same}
 use Rattle.dt_resolve.proofs.FindingSteps.{found-more, value-fault, value-found}
 use Rattle.dt_resolve.proofs.references.find_targets.Goals as goal
 
@@ -21,13 +25,14 @@ loop-property-preserved c =
     let rest = map read (drop (k + 1) properties) in
     let all = map read properties in
     let i = c.loop-property.invariant in
-    let step = c.in_default.ensures.step in (
+    let step = c.in_default.ensures.step in
+    let same = ap (λ (ps : List Part). each (found_in c.args.plugin (tree_of d)) (map part_view ps)) (sym c.as_slice.ensures.value) in (
       i.0 ++ definition e.path e.name step.0 ∷ [],
       record {
         known = c.in_default.ensures.known;
         so_far = so-far-more f i.0 e rest all (definition e.path e.name step.0)
             (subst (λ (es : List (Definition (List Piece))). IsSoFar f i.0 es all) (left-read read properties k x c.loop-property-test.true c.property-item.is) i.1.so_far)
-            (value-found c.args.plugin (tree_of d) e step.0 step.1);
+            (value-found c.args.plugin (tree_of d) e step.0 (same ∙ step.1));
         found = found-more d i.0 e.path e.name step.0 c.loop-property.targets c.find_value.new.targets i.1.found step.2;
       },
     )
@@ -52,6 +57,8 @@ returns-in-Err-clause-targets c =
     let f = found_value c.args.plugin (tree_of d) in
     let all = map read properties in
     let i = c.loop-property.invariant in
-    so-far-stops f i.0 (read x) (map read (drop (k + 1) properties)) all c.in-Err.error
+    so-far-stops f i.0 (read x) (map read (drop (k + 1) properties)) all c.in-Err.error.kind
     (subst (λ (es : List (Definition (List Piece))). IsSoFar f i.0 es all) (left-read read properties k x c.loop-property-test.true c.property-item.is) i.1.so_far)
-    (value-fault c.args.plugin (tree_of d) (read x) c.in-Err.error c.in-Err.ensures.step)
+    (value-fault c.args.plugin (tree_of d) (read x) c.in-Err.error.kind (fault-same c.in-Err.error.kind (each (found_in c.args.plugin (tree_of d)) (map part_view c.as_slice.result.now))
+    (each (found_in c.args.plugin (tree_of d)) (read x).value)
+    (ap (λ (ps : List Part). each (found_in c.args.plugin (tree_of d)) (map part_view ps)) (sym c.as_slice.ensures.value)) c.in-Err.ensures.step))

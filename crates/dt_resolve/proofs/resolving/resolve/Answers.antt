@@ -1,4 +1,4 @@
-use Rattle.std.proofs.Common.{◌≡◌, ◌∙◌, ◌++◌, if◌then◌else◌, [], ℕ, List, map, true, Ok, sym, ap, subst}
+use Rattle.std.proofs.Common.{◌≡◌, ◌∙◌, ◌++◌, if◌then◌else◌, [], ℕ, List, map, true, is_some, Ok, sym, ap, subst}
 use Rattle.dt_meaning.specs.Phandles.{given_of}
 use Rattle.dt_meaning.specs.References.{found_value, in_order, references}
 use Rattle.dt_meaning.specs.Resolved.{names_taken}
@@ -18,23 +18,23 @@ use Rattle.dt_resolve.proofs.resolving.resolve.Goals as goal
 pub returns-in-Err-clause-resolved : goal.returns-in-Err-clause-resolved
 returns-in-Err-clause-resolved c =
     let d = c.args.live.now in
-    let e = c.in-Err.error in
+    let e = c.in-Err.error.kind in
     let xs = c.args.properties.now in
     let order : map (read_property c.nodes.result.now) xs ≡ in_order (tree_of d) = ap (λ rows. map (read_property rows) xs) c.nodes.ensures ∙ read-order d xs c.requires.definitions in
-    free-fault e (names_taken c.args.symbols c.args.plugin (tree_of d)) (then_do (given_of (in_order (tree_of d)) []) (λ _. references c.args.plugin (tree_of d))) (sym c.is_name_taken.ensures ∙ c.if-is_name_taken.false)
+    free-fault e (names_taken c.args.symbols c.args.plugin (tree_of d)) (then_do (given_of (in_order (tree_of d)) []) (λ _. references c.args.plugin (tree_of d))) (sym c.name_taken.ensures ∙ ap is_some c.in_default.is)
     (fault-then e (given_of (in_order (tree_of d)) []) (λ _. references c.args.plugin (tree_of d))
     (fault-same e (given_of (map (read_property c.nodes.result.now) xs) []) (given_of (in_order (tree_of d)) []) (ap (λ es. given_of es []) (sym order)) c.in-Err.ensures.phandles))
 
 pub returns-in-Err-find_targets-clause-resolved : goal.returns-in-Err-find_targets-clause-resolved
 returns-in-Err-find_targets-clause-resolved c =
     let d = c.args.live.now in
-    let e = c.in-Err-find_targets.error in
+    let e = c.in-Err-find_targets.error.kind in
     let xs = c.args.properties.now in
     let order = read-order d xs c.requires.definitions in
     let phandles = map (path_phandle_of c.nodes.result.now) c.in-Ok.given.phandles.items in
     let given : given_of (in_order (tree_of d)) [] ≡ Ok phandles =
     ap (λ es. given_of es []) (sym (ap (λ rows. map (read_property rows) xs) c.nodes.ensures ∙ order)) ∙ c.in-Ok.ensures.phandles in
-    free-fault e (names_taken c.args.symbols c.args.plugin (tree_of d)) (then_do (given_of (in_order (tree_of d)) []) (λ _. references c.args.plugin (tree_of d))) (sym c.is_name_taken.ensures ∙ c.if-is_name_taken.false)
+    free-fault e (names_taken c.args.symbols c.args.plugin (tree_of d)) (then_do (given_of (in_order (tree_of d)) []) (λ _. references c.args.plugin (tree_of d))) (sym c.name_taken.ensures ∙ ap is_some c.in_default.is)
     (fault-behind e (given_of (in_order (tree_of d)) []) (references c.args.plugin (tree_of d)) phandles given
     (fault-same e (each (found_value c.args.plugin (tree_of d)) (map (read_property d.nodes.items) xs)) (references c.args.plugin (tree_of d)) (ap (each (found_value c.args.plugin (tree_of d))) (sym order)) c.in-Err-find_targets.ensures.targets))
 
@@ -72,7 +72,7 @@ returns-clause-resolved c =
     let named = c.as_slice-2.ensures.value ∙ c.in_ok-named.ensures ∙ ap (λ (ns : List ℕ). ns ++ (if c.args.symbols then labelled_rows d c.args.order.now else [])) c.as_slice.ensures.value in (
       found.0,
       record {
-        free = sym c.is_name_taken.ensures ∙ c.if-is_name_taken.false;
+        free = sym c.name_taken.ensures ∙ ap is_some c.in_default.is;
         given = ap (λ es. given_of es []) (sym (ap (λ rows. map (read_property rows) xs) c.nodes.ensures ∙ order)) ∙ c.in-Ok.ensures.phandles
             ∙ ap (λ (rows : List NodeRow). Ok (map (path_phandle_of rows) given)) c.nodes.ensures;
         found = ap (each (found_value c.args.plugin (tree_of d))) (sym order) ∙ found.1;

@@ -122,22 +122,22 @@ pub begun-returns-in_default-clause-gives : goal.begun-returns-in_default-clause
 begun-returns-in_default-clause-gives t c = rw (begun_other c.args.language c.args.text.now (body_below c.args.language c.args.text.now c.args.depth) c.args.nodes c.args.marks.now c.args.ts.now _ c.in-len1-up.len_at_least c.in_default.not-Name) c.nameless.ensures.gives
 
 pub begun-returns-in-Name-clause-gives : goal.begun-returns-in-Name-clause-gives
-begun-returns-in-Name-clause-gives t c = rw (begun c.args.language c.args.text.now (body_below c.args.language c.args.text.now c.args.depth) c.args.nodes c.args.marks.now c.args.ts.now _ c.bytes_of.result.now _ c.in-len1-up.len_at_least c.in-Name.is c.bytes_of.ensures c.closed.ensures) c.named.ensures.gives
+begun-returns-in-Name-clause-gives t c = rw (begun c.args.language c.args.text.now (body_below c.args.language c.args.text.now c.args.depth) c.args.nodes c.args.marks.now c.args.ts.now _ c.name_of.result.bytes.now _ c.in-len1-up.len_at_least c.in-Name.is c.name_of.ensures c.closed.ensures) c.named.ensures.gives
 
 pub named-returns-in_err-found-in-Equals-clause-gives : goal.named-returns-in_err-found-in-Equals-clause-gives
 named-returns-in_err-found-in-Equals-clause-gives t c =
     let p = err_from_is_err_and c.from_residual.result c.from_residual.ensures.1 in
-    rw (p.1, p.2) (value_fails c.args.language c.args.text.now (body_below c.args.language c.args.text.now c.args.depth) c.args.nodes (omits c.args.marks.now) (map (label_bytes c.args.text.now) (labels_in c.args.marks.now)) c.args.name.now c.args.ts.now _ c.in_err-found-in-Equals.field-0.0 c.in-len1-up.len_at_least c.in-Equals.is c.if-not-nodes-2.true c.in_err-found-in-Equals.ensures.gives)
+    rw (p.1, p.2) (value_fails c.args.language c.args.text.now (body_below c.args.language c.args.text.now c.args.depth) c.args.nodes (omits c.args.marks.now) (map (label_bytes c.args.text.now) (labels_in c.args.marks.now)) c.args.name.bytes.now c.args.ts.now _ c.in_err-found-in-Equals.field-0.0 c.in-len1-up.len_at_least c.in-Equals.is c.if-not-nodes-2.true c.in_err-found-in-Equals.ensures.gives)
 
 pub named-returns-in_ok-found-in-Equals-clause-gives : goal.named-returns-in_ok-found-in-Equals-clause-gives
 named-returns-in_ok-found-in-Equals-clause-gives t c =
-    rw (value_ends c.args.language c.args.text.now (body_below c.args.language c.args.text.now c.args.depth) c.args.nodes (omits c.args.marks.now) (map (label_bytes c.args.text.now) (labels_in c.args.marks.now)) c.args.name.now c.args.ts.now _ _ c.in_ok-found-in-Equals.field-0.fault c.in_ok-found-in-Equals.field-0.rest.now _ c.in-len1-up.len_at_least c.in-Equals.is c.if-not-nodes-2.true c.in_ok-found-in-Equals.ensures.gives c.property-in-Equals.ensures) c.end.ensures.gives
+    rw (value_ends c.args.language c.args.text.now (body_below c.args.language c.args.text.now c.args.depth) c.args.nodes (omits c.args.marks.now) (map (label_bytes c.args.text.now) (labels_in c.args.marks.now)) c.args.name.bytes.now c.args.ts.now _ _ c.in_ok-found-in-Equals.field-0.fault c.in_ok-found-in-Equals.field-0.rest.now _ c.in-len1-up.len_at_least c.in-Equals.is c.if-not-nodes-2.true c.in_ok-found-in-Equals.ensures.gives c.property-in-Equals.ensures) c.end.ensures.gives
 
 pub named-returns-in_err-found-in-Brace-clause-gives : goal.named-returns-in_err-found-in-Brace-clause-gives
 named-returns-in_err-found-in-Brace-clause-gives t c =
     let p = err_from_is_err_and c.from_residual-in_err-found-in-Brace.result c.from_residual-in_err-found-in-Brace.ensures.1 in
-    rw (p.1, p.2) (body_fails c.args.language c.args.text.now (body_below c.args.language c.args.text.now c.args.depth) c.args.nodes (omits c.args.marks.now) (map (label_bytes c.args.text.now) (labels_in c.args.marks.now)) c.args.name.now c.args.ts.now _ c.in_err-found-in-Brace.field-0.0 c.in-len1-up.len_at_least c.in-Brace.is c.in_err-found-in-Brace.ensures.gives)
+    rw (p.1, p.2) (body_fails c.args.language c.args.text.now (body_below c.args.language c.args.text.now c.args.depth) c.args.nodes (omits c.args.marks.now) (map (label_bytes c.args.text.now) (labels_in c.args.marks.now)) c.args.name.bytes.now c.args.ts.now _ c.in_err-found-in-Brace.field-0.0 c.in-len1-up.len_at_least c.in-Brace.is c.in_err-found-in-Brace.ensures.gives)
 
 pub named-returns-in_ok-labels-in-Brace-clause-gives : goal.named-returns-in_ok-labels-in-Brace-clause-gives
 named-returns-in_ok-labels-in-Brace-clause-gives t c =
-    rw (body_ends c.args.language c.args.text.now (body_below c.args.language c.args.text.now c.args.depth) c.args.nodes (omits c.args.marks.now) _ (map (label_bytes c.args.text.now) (labels_in c.args.marks.now)) _ c.args.name.now c.args.ts.now _ _ c.in_ok-found-in-Brace.field-0.fault c.in_ok-found-in-Brace.field-0.rest.now _ c.in-len1-up.len_at_least c.in-Brace.is c.in_ok-found-in-Brace.ensures.gives c.omits.ensures c.in_ok-labels-in-Brace.ensures c.node.ensures) c.end-in-Brace.ensures.gives
+    rw (body_ends c.args.language c.args.text.now (body_below c.args.language c.args.text.now c.args.depth) c.args.nodes (omits c.args.marks.now) _ (map (label_bytes c.args.text.now) (labels_in c.args.marks.now)) _ c.args.name.bytes.now c.args.ts.now _ _ c.in_ok-found-in-Brace.field-0.fault c.in_ok-found-in-Brace.field-0.rest.now _ c.in-len1-up.len_at_least c.in-Brace.is c.in_ok-found-in-Brace.ensures.gives c.omits.ensures c.in_ok-labels-in-Brace.ensures c.node.ensures) c.end-in-Brace.ensures.gives

@@ -9,7 +9,7 @@ pub returns-in-Root : goal.returns-in-Root
 returns-in-Root c =
     let fs = into_iter_items c.args.binaries.now in
     let gs = into_iter_items c.fill_body.new.binaries in
-    reads_from c.fill_body.result _ gs _ _ (ap (λ i. filled_edit (item_view i) fs) c.in-Root.is) (root_filled c.in-Root.body c.fill_body.new.body fs gs c.fill_body.result c.fill_body.ensures)
+    reads_from c.fill_body.result _ gs _ _ (ap (λ i. filled_edit (item_view i) fs) c.in-Root.is) (root_filled c.in-Root.at c.in-Root.body c.fill_body.new.body fs gs c.fill_body.result c.fill_body.ensures)
 
 pub returns-in-Extend : goal.returns-in-Extend
 returns-in-Extend c =

@@ -6,11 +6,11 @@ use Rattle.dtman_cli.proofs.outcome.compile_dtc.Goals as goal
 
 pub returns-in-Ok : goal.returns-in-Ok
 returns-in-Ok g c =
-    let given = c.compile_dtc_bytes-answer.ensures in
+    let given = c.compile_dtc-answer.ensures in
     let read = c.as_slice.result.now in
     let value : read ≡ c.in-Ok.field-0.text.items = c.as_slice.ensures.value in
     let short : IsShort read = subst (λ (t : List ℕ). IsShort t) (sym value) c.in-Ok.ensures.short in
-    let answer : IsAnswer g.F.Files.finds c.args.name.now c.args.source.now c.args.options read c.compile_dtc_bytes-answer.result = record {
+    let answer : IsAnswer g.F.Files.finds c.args.name.now c.args.source.now c.args.options read c.compile_dtc-answer.result = record {
       whole = c.in-Ok.field-0;
       included = c.in-Ok.ensures.whole;
       text_is = value;
@@ -18,4 +18,4 @@ returns-in-Ok g c =
       said = λ m says. given.said m short says;
       refused = given.refused;
     } in
-    subst (λ (t : List ℕ). IsAnswer g.F.Files.finds c.args.name.now c.args.source.now c.args.options t c.compile_dtc_bytes-answer.result) value answer
+    subst (λ (t : List ℕ). IsAnswer g.F.Files.finds c.args.name.now c.args.source.now c.args.options t c.compile_dtc-answer.result) value answer

@@ -5,4 +5,4 @@ use Rattle.dtman_cli.proofs.reading.dump.Goals as goal
 pub returns : goal.returns
 returns c =
     let given = c.args.given.now in
-    (refl, value given (codes "IN") c.in_ok-get_str.field-0.now c.in_ok-get_str.ensures)
+    (refl, value given (codes "IN") c.in_ok-blob.blob.now c.in_ok-blob.ensures, c.is_on-labels.ensures)

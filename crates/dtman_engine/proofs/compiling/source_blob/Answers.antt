@@ -13,7 +13,7 @@ pub returns-in-Ok-None : goal.returns-in-Ok-None
 returns-in-Ok-None c =
     let symbols = c.args.symbols in
     let m = meaning_of c.args.source.now in
-    inr (inr (c.from-in-Ok-None.ensures, long-blob symbols m (subst (λ (tree : Option TreeData). IsBuilt symbols m blob_limit tree) c.in-Ok-None.field-0-is c.in-Ok-None.ensures.tree)))
+    inr (inr (c.from.ensures, long-blob symbols m (subst (λ (tree : Option TreeData). IsBuilt symbols m blob_limit tree) c.in-Ok-None.field-0-is c.in-Ok-None.ensures.tree)))
 
 pub returns-in-Ok-Some : goal.returns-in-Ok-Some
 returns-in-Ok-Some c =

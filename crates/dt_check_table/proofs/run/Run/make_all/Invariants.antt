@@ -1,7 +1,10 @@
 use Rattle.std.proofs.Common.{drop}
-use Rattle.dt_check_table.specs.Run.{RunData, MakesAll}
+use Rattle.std.specs.Option.{option_copied}
+use Rattle.dt_check_table.specs.Run.{RunData, MakesFrom}
 use Rattle.dt_check_table.proofs.run.Run.make_all.Given as goal
 
--- what makes the checks that are left makes all
+-- what makes the rows that are left makes all
 abbrev pub invariant-loop-check : goal.invariant-loop-check
-invariant-loop-check l = (after : RunData) → MakesAll l.subject.survey.now l.selection (drop l.check-index l.checks) l.self after → MakesAll l.subject.survey.now l.selection l.checks l.fn.self after
+invariant-loop-check l =
+    (end : RunData) → MakesFrom l.subject.survey.now (option_copied l.subject.written) l.selection l.least l.check (drop l.check l.rows) l.self end
+    → MakesFrom l.subject.survey.now (option_copied l.subject.written) l.selection l.least 0 l.rows l.fn.self end

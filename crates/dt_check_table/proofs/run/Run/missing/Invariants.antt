@@ -4,4 +4,4 @@ use Rattle.dt_check_table.proofs.run.Run.missing.Given as goal
 
 -- those so far and those that are left are all
 abbrev pub invariant-loop-prerequisite : goal.invariant-loop-prerequisite
-invariant-loop-prerequisite l = l.gone.items ++ missing l.self.statuses l.check (drop l.prerequisite-index l.needed) ≡ missing l.self.statuses l.check l.needed
+invariant-loop-prerequisite l = l.gone.items ++ missing l.self.told l.check (drop l.prerequisite-index l.needed) ≡ missing l.self.told l.check l.needed

@@ -49,7 +49,7 @@ returns-in_ok-push-in-None g c =
     let old = d.nodes.items in
     let found = row_of d.node_rows in
     let none = sym (ap (λ (x : IndexEntry). x.row) c.in_ok-entry.ensures.before) ∙ c.in-None.is in
-    let r : NodeRow = record { parent = c.args.parent; name = c.args.name; removed = false } in
+    let r : NodeRow = record { parent = c.args.parent; name = c.args.name; removed = false; at = c.args.at } in
     let e : c.push.new.self.items ≡ pushed old r = c.in_ok-push-in-None.ensures.items ∙ ap (λ xs. xs ++ r ∷ []) c.in_ok-reserve.ensures.items in
     let at : c.len-node.result + 1 ≡ suc (length old) = omega (arith, c.len-node.ensures, ap length c.in_ok-reserve.ensures.items) in
     record {

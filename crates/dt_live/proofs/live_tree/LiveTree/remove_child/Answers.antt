@@ -27,7 +27,7 @@ returns-in-Some g c =
     let old = d.nodes.items in
     let row = child-of old (row_of d.node_rows) c.in-Some.node c.args.parent c.args.name.now c.requires.sound.grown c.requires.sound.nodes (sym c.in-Some.ensures.was) c.requires.stands in
     let i = c.in-Some.node - 1 in
-    let r : NodeRow = record { parent = c.index_mut.result.now.parent; name = c.index_mut.result.now.name; removed = true } in
+    let r : NodeRow = record { parent = c.index_mut.result.now.parent; name = c.index_mut.result.now.name; removed = true; at = c.index_mut.result.now.at } in
     let was : c.index_mut.result.now ≡ row_at old i = c.index_mut.ensures.value ∙ get_or_default old i c.index_mut.result.now no_row row.within in
     record {
       sound =

@@ -10,7 +10,7 @@ pub returns-then-not-is_worn-clause-noted : goal.returns-then-not-is_worn-clause
 returns-then-not-is_worn-clause-noted g c = label-passed c.args.self.now c.args.row c.requires.known c.args.words.now c.requires.noted (sym c.is_worn.ensures ∙ c.if-not-is_worn.true)
 
 pub returns-in-Some-clause-refused : goal.returns-in-Some-clause-refused
-returns-in-Some-clause-refused g c = λ is.
+returns-in-Some-clause-refused g c = λ _ is.
     let d = c.args.self.now in
     let rows = rows_in d.labels in
     let was : c.index.result.now ≡ place_at rows c.args.row = c.index.ensures ∙ get_or_default rows c.args.row c.index.result.now no_place c.requires.known in

@@ -1,4 +1,4 @@
-use Rattle.std.proofs.Common.{◌≡◌, List, Some, Ok, true, slice_set, refl, sym, ap, ap₂, ◌∙◌, subst, arith, if◌then◌else◌}
+use Rattle.std.proofs.Common.{◌≡◌, ℕ, List, Some, Ok, true, slice_set, refl, sym, ap, ap₂, ◌∙◌, subst, arith, if◌then◌else◌}
 use Rattle.std.specs.Prelude.{slice_index_or}
 use Rattle.std.proofs.lemmas.List.{get_or_default, set-get_or}
 use Rattle.dt_meaning.specs.DtcEdits.{without_all_within}
@@ -27,7 +27,7 @@ returns-then-not-place-clause-sound g c =
     let counted : found_in d.nodes (place_at (rows_in d.nodes) i).owner (place_at (rows_in d.nodes) i).name.now ≡ Some i = ap₂ (found_in d.nodes) k.0 k.1 ∙ has in
     let y = c.index_mut-place.result.now in
     let ys : y ≡ place_at (rows_in d.nodes) i = c.index_mut-place.ensures.value ∙ get_or_default (rows_in d.nodes) i y no_place known in
-    let r : Place (Unit {0}) = record y { removed = true } in
+    let r : Place ℕ = record y { removed = true } in
     record { tables = sound-removed d c.requires.sound i known counted r (ap (λ z. z.owner) ys) (ap (λ z. z.name.now) ys) (ap (λ z. z.made) ys) (ap (λ z. z.again) ys) refl; marks = marks-removed d c.requires.sound i known counted r (ap (λ z. z.owner) ys) (ap (λ z. z.name.now) ys) (ap (λ z. z.made) ys) (ap (λ z. z.again) ys) refl; single = c.requires.sound.single; chained = c.requires.sound.chained; valued = c.requires.sound.valued }
 
 pub returns-then-not-place-clause-keeps : goal.returns-then-not-place-clause-keeps
@@ -40,7 +40,7 @@ returns-then-not-place-clause-keeps g c =
     let counted : found_in d.nodes (place_at (rows_in d.nodes) i).owner (place_at (rows_in d.nodes) i).name.now ≡ Some i = ap₂ (found_in d.nodes) k.0 k.1 ∙ has in
     let y = c.index_mut-place.result.now in
     let ys : y ≡ place_at (rows_in d.nodes) i = c.index_mut-place.ensures.value ∙ get_or_default (rows_in d.nodes) i y no_place known in
-    let r : Place (Unit {0}) = record y { removed = true } in
+    let r : Place ℕ = record y { removed = true } in
     keeps-removed d c.requires.sound i known counted r (ap (λ z. z.owner) ys) (ap (λ z. z.name.now) ys) (ap (λ z. z.made) ys) (ap (λ z. z.again) ys) refl c.args.parent (omega (arith, c.requires.sound.tables.grown i, k.0)) (record d { nodes = record d.nodes { rows = with_item d.nodes.rows i r } }) refl
 
 pub returns-then-not-place-clause-tree : goal.returns-then-not-place-clause-tree
@@ -53,7 +53,7 @@ returns-then-not-place-clause-tree g c =
     let counted : found_in d.nodes (place_at (rows_in d.nodes) i).owner (place_at (rows_in d.nodes) i).name.now ≡ Some i = ap₂ (found_in d.nodes) k.0 k.1 ∙ has in
     let y = c.index_mut-place.result.now in
     let ys : y ≡ place_at (rows_in d.nodes) i = c.index_mut-place.ensures.value ∙ get_or_default (rows_in d.nodes) i y no_place known in
-    let r : Place (Unit {0}) = record y { removed = true } in
+    let r : Place ℕ = record y { removed = true } in
     λ read. ap (λ b. Ok (if b then dtc_tree read d else without_all_within (child_path d c.args.parent c.args.name.now) (dtc_tree read d)))
     (two-single d c.requires.sound c.args.parent c.requires.parent c.args.name read i has (sym (ap (λ z. z.again) ys) ∙ c.if-not-place.true))
     ∙ ap (λ q. Ok (without_all_within q (dtc_tree read d))) (sym (path-row d c.requires.sound c.args.parent c.requires.parent c.args.name i has))
@@ -71,8 +71,8 @@ returns-else-not-place-clause-sound g c =
     let ys : y ≡ place_at (rows_in d.nodes) i = c.index_mut-place.ensures.value ∙ get_or_default (rows_in d.nodes) i y no_place known in
     let same : slice_set (rows_in d.nodes) i y ≡ rows_in d.nodes = ap (slice_set (rows_in d.nodes) i) ys ∙ set-get_or (rows_in d.nodes) i no_place in
     record {
-      tables = subst (λ (rs : List (Place (Unit {0}))). AreSound rs (found_in d.nodes) (rows_in d.properties) (found_in d.properties) (rows_in d.labels) (found_in d.labels) d.clock) (sym same) c.requires.sound.tables;
-      marks = λ j. subst (λ (rs : List (Place (Unit {0}))). IsOwner rs (found_in d.nodes) (slice_index_or d.marks.items j 0)) (sym same) (c.requires.sound.marks j);
+      tables = subst (λ (rs : List (Place ℕ)). AreSound rs (found_in d.nodes) (rows_in d.properties) (found_in d.properties) (rows_in d.labels) (found_in d.labels) d.clock) (sym same) c.requires.sound.tables;
+      marks = λ j. subst (λ (rs : List (Place ℕ)). IsOwner rs (found_in d.nodes) (slice_index_or d.marks.items j 0)) (sym same) (c.requires.sound.marks j);
       single = c.requires.sound.single;
       chained = c.requires.sound.chained;
       valued = c.requires.sound.valued;

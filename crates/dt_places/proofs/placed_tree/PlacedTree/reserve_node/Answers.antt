@@ -9,7 +9,7 @@ use Rattle.dt_places.proofs.placed_tree.PlacedTree.reserve_node.Goals as goal
 pub returns-in-New-clause-sound : goal.returns-in-New-clause-sound
 returns-in-New-clause-sound g c =
     let d = c.args.self.now in
-    let a = added-new d c.requires.sound c.args.parent c.requires.parent c.args.name 0 c.in-New.field-0 c.enter.new.self
+    let a = added-new d c.requires.sound c.args.parent c.requires.parent c.args.name None 0 c.in-New.field-0 c.enter.new.self
     (subst (λ (e : Entry). Enters (record { owner = c.args.parent; name = c.args.name; value = None; made = 0; removed = false; again = false }) d.nodes c.enter.new.self e) c.in-New.is c.in_ok-enter.ensures) in
     record {
       tables = tables-after d c.requires.sound c.args.parent c.requires.parent c.args.name 0 (rows_in c.enter.new.self) (found_in c.enter.new.self) a d.clock (omega arith) (omega arith);
@@ -22,14 +22,14 @@ returns-in-New-clause-sound g c =
 pub returns-in-New-clause-grows : goal.returns-in-New-clause-grows
 returns-in-New-clause-grows g c =
     let d = c.args.self.now in
-    let a = added-new d c.requires.sound c.args.parent c.requires.parent c.args.name 0 c.in-New.field-0 c.enter.new.self
+    let a = added-new d c.requires.sound c.args.parent c.requires.parent c.args.name None 0 c.in-New.field-0 c.enter.new.self
     (subst (λ (e : Entry). Enters (record { owner = c.args.parent; name = c.args.name; value = None; made = 0; removed = false; again = false }) d.nodes c.enter.new.self e) c.in-New.is c.in_ok-enter.ensures) in
     grows-after d c.requires.sound c.args.parent c.requires.parent c.args.name 0 (rows_in c.enter.new.self) (found_in c.enter.new.self) a (record d { nodes = c.enter.new.self }) refl (λ _. refl)
 
 pub returns-in-New-clause-keeps : goal.returns-in-New-clause-keeps
 returns-in-New-clause-keeps g c =
     let d = c.args.self.now in
-    let a = added-new d c.requires.sound c.args.parent c.requires.parent c.args.name 0 c.in-New.field-0 c.enter.new.self
+    let a = added-new d c.requires.sound c.args.parent c.requires.parent c.args.name None 0 c.in-New.field-0 c.enter.new.self
     (subst (λ (e : Entry). Enters (record { owner = c.args.parent; name = c.args.name; value = None; made = 0; removed = false; again = false }) d.nodes c.enter.new.self e) c.in-New.is c.in_ok-enter.ensures) in
     keeps-after d c.requires.sound c.args.parent c.requires.parent c.args.name 0 (rows_in c.enter.new.self) (found_in c.enter.new.self) a (record d { nodes = c.enter.new.self }) refl c.args.parent
 
@@ -37,7 +37,7 @@ pub returns-in-New-clause-tree : goal.returns-in-New-clause-tree
 returns-in-New-clause-tree g c =
     let d = c.args.self.now in
     let e = subst (λ (e : Entry). Enters (record { owner = c.args.parent; name = c.args.name; value = None; made = 0; removed = false; again = false }) d.nodes c.enter.new.self e) c.in-New.is c.in_ok-enter.ensures in
-    let a = added-new d c.requires.sound c.args.parent c.requires.parent c.args.name 0 c.in-New.field-0 c.enter.new.self e in
+    let a = added-new d c.requires.sound c.args.parent c.requires.parent c.args.name None 0 c.in-New.field-0 c.enter.new.self e in
     λ read. new-reserved d c.requires.sound c.args.parent c.requires.parent c.args.name read (dtc_tree read (record d { nodes = c.enter.new.self })) (stands-none d c.requires.sound c.args.parent c.requires.parent c.args.name read e.0)
     (tree-after d c.requires.sound c.args.parent c.requires.parent c.args.name 0 (rows_in c.enter.new.self) (found_in c.enter.new.self) a (record d { nodes = c.enter.new.self }) refl read false
     (never-there d c.requires.sound c.args.parent c.requires.parent c.args.name 0 (rows_in c.enter.new.self) (found_in c.enter.new.self) a refl) refl refl refl refl refl)
@@ -74,7 +74,7 @@ returns-in_ok-renew-in-Found-clause-sound g c =
     let i = c.in-Found.row in
     let met = subst (λ (e : Entry). Enters (record { owner = c.args.parent; name = c.args.name; value = None; made = 0; removed = false; again = false }) d.nodes c.enter.new.self e) c.in-Found.is c.in_ok-enter.ensures in
     let gone : is_made (rows_in d.nodes) (place_at (rows_in d.nodes) i) ≡ false = ap (λ rs. is_made rs (place_at rs i)) (sym (c.as_slice.ensures.value ∙ met.1)) ∙ sym c.is_row_made.ensures ∙ c.if-is_row_made.false in
-    let a = added-again d c.requires.sound c.args.parent c.requires.parent c.args.name i met.0 0 c.enter.new.self c.renew.new.self met.1 met.2 c.requires.fresh gone c.in_ok-renew-in-Found.ensures.rows c.in_ok-renew-in-Found.ensures.index in
+    let a = added-again d c.requires.sound c.args.parent c.requires.parent c.args.name i met.0 None 0 c.enter.new.self c.renew.new.self met.1 met.2 c.requires.fresh gone c.in_ok-renew-in-Found.ensures.rows c.in_ok-renew-in-Found.ensures.index in
     record { tables = tables-after d c.requires.sound c.args.parent c.requires.parent c.args.name 0 (rows_in c.renew.new.self) (found_in c.renew.new.self) a d.clock (omega arith) (omega arith); marks = marks-after d c.requires.sound c.args.parent c.requires.parent c.args.name 0 (rows_in c.renew.new.self) (found_in c.renew.new.self) a; single = c.requires.sound.single; chained = c.requires.sound.chained; valued = c.requires.sound.valued }
 
 pub returns-in_ok-renew-in-Found-clause-grows : goal.returns-in_ok-renew-in-Found-clause-grows
@@ -83,7 +83,7 @@ returns-in_ok-renew-in-Found-clause-grows g c =
     let i = c.in-Found.row in
     let met = subst (λ (e : Entry). Enters (record { owner = c.args.parent; name = c.args.name; value = None; made = 0; removed = false; again = false }) d.nodes c.enter.new.self e) c.in-Found.is c.in_ok-enter.ensures in
     let gone : is_made (rows_in d.nodes) (place_at (rows_in d.nodes) i) ≡ false = ap (λ rs. is_made rs (place_at rs i)) (sym (c.as_slice.ensures.value ∙ met.1)) ∙ sym c.is_row_made.ensures ∙ c.if-is_row_made.false in
-    let a = added-again d c.requires.sound c.args.parent c.requires.parent c.args.name i met.0 0 c.enter.new.self c.renew.new.self met.1 met.2 c.requires.fresh gone c.in_ok-renew-in-Found.ensures.rows c.in_ok-renew-in-Found.ensures.index in
+    let a = added-again d c.requires.sound c.args.parent c.requires.parent c.args.name i met.0 None 0 c.enter.new.self c.renew.new.self met.1 met.2 c.requires.fresh gone c.in_ok-renew-in-Found.ensures.rows c.in_ok-renew-in-Found.ensures.index in
     grows-after d c.requires.sound c.args.parent c.requires.parent c.args.name 0 (rows_in c.renew.new.self) (found_in c.renew.new.self) a (record d { nodes = c.renew.new.self }) refl (λ _. refl)
 
 pub returns-in_ok-renew-in-Found-clause-keeps : goal.returns-in_ok-renew-in-Found-clause-keeps
@@ -92,7 +92,7 @@ returns-in_ok-renew-in-Found-clause-keeps g c =
     let i = c.in-Found.row in
     let met = subst (λ (e : Entry). Enters (record { owner = c.args.parent; name = c.args.name; value = None; made = 0; removed = false; again = false }) d.nodes c.enter.new.self e) c.in-Found.is c.in_ok-enter.ensures in
     let gone : is_made (rows_in d.nodes) (place_at (rows_in d.nodes) i) ≡ false = ap (λ rs. is_made rs (place_at rs i)) (sym (c.as_slice.ensures.value ∙ met.1)) ∙ sym c.is_row_made.ensures ∙ c.if-is_row_made.false in
-    let a = added-again d c.requires.sound c.args.parent c.requires.parent c.args.name i met.0 0 c.enter.new.self c.renew.new.self met.1 met.2 c.requires.fresh gone c.in_ok-renew-in-Found.ensures.rows c.in_ok-renew-in-Found.ensures.index in
+    let a = added-again d c.requires.sound c.args.parent c.requires.parent c.args.name i met.0 None 0 c.enter.new.self c.renew.new.self met.1 met.2 c.requires.fresh gone c.in_ok-renew-in-Found.ensures.rows c.in_ok-renew-in-Found.ensures.index in
     keeps-after d c.requires.sound c.args.parent c.requires.parent c.args.name 0 (rows_in c.renew.new.self) (found_in c.renew.new.self) a (record d { nodes = c.renew.new.self }) refl c.args.parent
 
 pub returns-in_ok-renew-in-Found-clause-tree : goal.returns-in_ok-renew-in-Found-clause-tree
@@ -101,6 +101,6 @@ returns-in_ok-renew-in-Found-clause-tree g c =
     let i = c.in-Found.row in
     let met = subst (λ (e : Entry). Enters (record { owner = c.args.parent; name = c.args.name; value = None; made = 0; removed = false; again = false }) d.nodes c.enter.new.self e) c.in-Found.is c.in_ok-enter.ensures in
     let gone : is_made (rows_in d.nodes) (place_at (rows_in d.nodes) i) ≡ false = ap (λ rs. is_made rs (place_at rs i)) (sym (c.as_slice.ensures.value ∙ met.1)) ∙ sym c.is_row_made.ensures ∙ c.if-is_row_made.false in
-    let a = added-again d c.requires.sound c.args.parent c.requires.parent c.args.name i met.0 0 c.enter.new.self c.renew.new.self met.1 met.2 c.requires.fresh gone c.in_ok-renew-in-Found.ensures.rows c.in_ok-renew-in-Found.ensures.index in
+    let a = added-again d c.requires.sound c.args.parent c.requires.parent c.args.name i met.0 None 0 c.enter.new.self c.renew.new.self met.1 met.2 c.requires.fresh gone c.in_ok-renew-in-Found.ensures.rows c.in_ok-renew-in-Found.ensures.index in
     λ read. new-reserved d c.requires.sound c.args.parent c.requires.parent c.args.name read (dtc_tree read (record d { nodes = c.renew.new.self })) (stands-gone d c.requires.sound c.args.parent c.requires.parent c.args.name read i met.0 gone)
     (tree-after d c.requires.sound c.args.parent c.requires.parent c.args.name 0 (rows_in c.renew.new.self) (found_in c.renew.new.self) a (record d { nodes = c.renew.new.self }) refl read false (never-there d c.requires.sound c.args.parent c.requires.parent c.args.name 0 (rows_in c.renew.new.self) (found_in c.renew.new.self) a refl) refl refl refl refl refl)

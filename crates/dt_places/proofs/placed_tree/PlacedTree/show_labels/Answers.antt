@@ -5,7 +5,7 @@ use Rattle.dt_places.proofs.TreeLeft.{ordered-twice}
 use Rattle.dt_places.proofs.placed_tree.PlacedTree.show_labels.Goals as goal
 
 pub returns-clause-refused : goal.returns-clause-refused
-returns-clause-refused g c = λ e.
+returns-clause-refused g c = λ at e.
     let d = c.args.self.now in
     let is : map (label_of d) c.as_slice.result.now ≡ ordered_labels d = ap (map (label_of d)) c.as_slice.ensures.value ∙ c.in_ok-rows.ensures.labels in
-    ordered-twice d c.requires.sound (ap label_twice (sym is) ∙ c.show_words.ensures.refused e)
+    ordered-twice d c.requires.sound (ap label_twice (sym is) ∙ c.show_words.ensures.refused at e)

@@ -8,9 +8,9 @@ use Rattle.dt_places.proofs.WordsGiven.{twice-taken}
 use Rattle.dt_places.proofs.placed_tree.PlacedTree.show_words.Goals as goal
 
 pub returns-in-Err-clause-refused : goal.returns-in-Err-clause-refused
-returns-in-Err-clause-refused g c = λ is.
+returns-in-Err-clause-refused g c = λ at is.
     let d = c.args.self.now in
     let rows = c.args.rows.now in
     let i = c.loop-row.row-index in
     twice-taken d rows i c.loop-row-test.true
-    (ap (λ (ls : List Label). list_any (same_label (label_of d (slice_index_or rows i 0))) ls) (sym c.loop-row.invariant.labels) ∙ c.in-Err.ensures.refused is)
+    (ap (λ (ls : List Label). list_any (same_label (label_of d (slice_index_or rows i 0))) ls) (sym c.loop-row.invariant.labels) ∙ c.in-Err.ensures.refused at is)

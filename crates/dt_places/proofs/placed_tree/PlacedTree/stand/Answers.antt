@@ -1,5 +1,7 @@
 use Rattle.std.proofs.Common.{◌≡◌, length, map, ap, ◌∙◌, arith}
+use Rattle.std.specs.Result.{result_map_both}
 use Rattle.std.proofs.lemmas.List.{take_all}
+use Rattle.std.proofs.lemmas.Result.{err_from_is_err_and}
 use Rattle.dt_meaning.specs.Places.{what_stands}
 use Rattle.dt_live.specs.Rows.{state_of}
 use Rattle.dt_places.specs.PlacedTrees.{property_seen}
@@ -21,3 +23,13 @@ returns-clause-tree g c = λ read.
     ∙ c.in_ok-show_properties.ensures.properties_shown read
     ∙ ap (λ rs. what_stands (map (property_seen read (rows_in d.nodes)) rs)) (take_all (length rows) rows (omega arith)) in
     state-left d c.requires.sound read s c.in_ok-show_labels.ensures.shown properties c.in_ok-show_labels.ensures.labels
+
+pub returns-in_err-check_labels-clause-refused : goal.returns-in_err-check_labels-clause-refused
+returns-in_err-check_labels-clause-refused g c =
+    let p = err_from_is_err_and c.from_residual-in_err-check_labels.result c.from_residual-in_err-check_labels.ensures.1 in
+    rw (p.1, p.2) (λ at is. c.in_err-check_labels.ensures.refused at (ap (result_map_both (λ _. tt) (λ e. e)) is))
+
+pub returns-in_err-show_labels-clause-refused : goal.returns-in_err-show_labels-clause-refused
+returns-in_err-show_labels-clause-refused g c =
+    let p = err_from_is_err_and c.from_residual-in_err-show_labels.result c.from_residual-in_err-show_labels.ensures.1 in
+    rw (p.1, p.2) (λ at is. c.in_err-show_labels.ensures.refused at (ap (result_map_both (λ _. tt) (λ e. e)) is))

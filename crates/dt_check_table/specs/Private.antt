@@ -1,0 +1,2 @@
+-- What only the contracts of private functions cite: a reader of the public ones needs none of it.
+pub mod Classes
