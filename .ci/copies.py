@@ -3,7 +3,7 @@
 import re
 import sys
 
-TESTED = "crates/source_tests/src/sources/board.rt"
+TESTED = "crates/dt_tests/src/source/sources/board.rt"
 ESCAPES = {"n": "\n", "t": "\t", '"': '"', "\\": "\\"}
 
 

@@ -10,6 +10,7 @@ pub mod Openings
 pub mod Paying
 pub mod Rests
 pub mod Seats
+pub mod SeatsLemmas
 pub mod Shares
 pub mod Sole
 pub mod Sums

@@ -5,6 +5,7 @@ pub mod Opening
 pub mod Outcomes
 pub mod Private
 pub mod Rule
+pub mod Seats
 pub mod Shares
 pub mod Shown
 pub mod Steps

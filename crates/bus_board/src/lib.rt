@@ -12,6 +12,7 @@ mod opening;
 mod order;
 mod returning;
 mod seat;
+pub mod seats;
 mod settling;
 mod view;
 mod waking;

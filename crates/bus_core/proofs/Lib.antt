@@ -1,4 +1,3 @@
-mod PathLemmas
 pub mod CountLemmas
 pub mod CountedLemmas
 pub mod DriverLemmas
@@ -8,6 +7,7 @@ pub mod LateLemmas
 pub mod LeastLemmas
 pub mod Lists
 pub mod PartingLemmas
+mod PathLemmas
 pub mod QuietLemmas
 pub mod ReachedLemmas
 pub mod ReplayLaws

@@ -1,6 +1,7 @@
 pub mod Driver
 pub mod DriverFile
 pub mod DriverSetBuilder
+pub mod Modules
 pub mod Nodes
 pub mod Private
 pub mod References

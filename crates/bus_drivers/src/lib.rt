@@ -7,6 +7,7 @@ mod driver_set_builder;
 mod fail_line;
 mod late_strings;
 mod matching;
+pub mod modules;
 mod path_sets;
 mod phandle_index;
 mod plan_fault;

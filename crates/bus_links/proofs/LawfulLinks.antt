@@ -18,10 +18,10 @@ use Rattle.bus_drivers.proofs.DevicePaths.{device_paths, device_paths-apart}
 use Rattle.bus_drivers.proofs.Lawful.{planned_lawful}
 use Rattle.bus_drivers.proofs.Mentions.{suppliers_all, suppliers_apart, suppliers_others}
 use Rattle.bus_links.specs.LinkDrivers.{LinkDriversData}
-use Rattle.bus_bindings.specs.LinkNodes.{LinkNode, node_at, tree_nodes, device_places}
+use Rattle.bus_links.specs.Bindings.LinkNodes.{LinkNode, node_at, tree_nodes, device_places}
 use Rattle.bus_links.specs.LinkPlan.{suppliers_by, links_at, planned_by}
 use Rattle.bus_links.specs.Links.{LinkData, supplies, supplier_at, supplier_of, link_by, links_by, flags, is_bus_for, bus_above, bus_link, links_of, node_of, links_from, has_string, tree_links}
-use Rattle.bus_bindings.specs.Mentions.{MentionData, found_at}
+use Rattle.bus_links.specs.Bindings.Mentions.{MentionData, found_at}
 
 -- ---- suppliers are devices
 abbrev IsWithin : ℕ → LinkData → Type 0

@@ -1,3 +1,4 @@
+pub mod BindingsLemmas
 pub mod LawfulLinks
 mod NoCycle
 mod RefusalLemmas

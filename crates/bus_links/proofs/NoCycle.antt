@@ -15,13 +15,13 @@ use Rattle.bus_plan.specs.Plan.{PlannedDevice, suppliers_of}
 use Rattle.bus_drivers.specs.Driver.{DriverSetData}
 use Rattle.bus_drivers.specs.Nodes.{TreeDevice, tree_devices}
 use Rattle.bus_drivers.specs.TreePlan.{first_mentions, suppliers_among}
-use Rattle.bus_bindings.specs.LinkNodes.{LinkNode, node_at, tree_nodes, device_places}
-use Rattle.bus_bindings.specs.Mentions.{MentionData, found_at}
-use Rattle.bus_reach.specs.Takes.{Takes}
-use Rattle.bus_reach.specs.Components.{AreComponents, component_of}
-use Rattle.bus_reach.specs.Reached.{is_in}
-use Rattle.bus_reach.proofs.InLemmas.{some_or, or_left, or_right, in_filter, filter_in}
-use Rattle.bus_reach.proofs.TakesLemmas.{takes_on, takes_supplier, known_consumer}
+use Rattle.bus_links.specs.Bindings.LinkNodes.{LinkNode, node_at, tree_nodes, device_places}
+use Rattle.bus_links.specs.Bindings.Mentions.{MentionData, found_at}
+use Rattle.bus_plan.specs.Reach.Takes.{Takes}
+use Rattle.bus_plan.specs.Reach.Components.{AreComponents, component_of}
+use Rattle.bus_plan.specs.Reach.Reached.{is_in}
+use Rattle.bus_plan.proofs.ReachLemmas.InLemmas.{some_or, or_left, or_right, in_filter, filter_in}
+use Rattle.bus_plan.proofs.ReachLemmas.TakesLemmas.{takes_on, takes_supplier, known_consumer}
 use Rattle.bus_links.specs.Laws.{is_chain, NoCycleIsLeft}
 use Rattle.bus_links.specs.LinkPlan.{is_relaxed, is_counted, is_waited_for, suppliers_by, links_at, planned_by}
 use Rattle.bus_links.specs.Links.{LinkData, supplier_of, link_by, links_by, flags, is_bus_for, bus_above, bus_link, links_of, node_of, links_from, tree_links}

@@ -3,7 +3,7 @@ use Rattle.std.specs.Prelude.{◌≡◌, ℕ, Bool, true, ◌&&◌, List, [], �
 use Rattle.dt_tree.specs.NodeData.{NodeData}
 use Rattle.bus_plan.specs.Consumers.{has_supplier}
 use Rattle.bus_plan.specs.Plan.{PlannedDevice}
-use Rattle.bus_reach.specs.Components.{AreComponents}
+use Rattle.bus_plan.specs.Reach.Components.{AreComponents}
 use Rattle.bus_links.specs.LinkDrivers.{LinkDriversData}
 use Rattle.bus_links.specs.LinkPlan.{counted_plan, relaxed_plan}
 

@@ -1,3 +1,4 @@
+pub mod Bindings
 pub mod Laws
 pub mod LinkDrivers
 pub mod LinkFile

@@ -11,7 +11,7 @@ use Rattle.bus_plan.specs.Plan.{PlannedDevice}
 use Rattle.bus_drivers.specs.Driver.{DriverSetData}
 use Rattle.bus_drivers.specs.Nodes.{TreeDevice, device_nodes, tree_devices}
 use Rattle.bus_drivers.specs.TreePlan.{suppliers_among, planned_device, unknown_fail}
-use Rattle.bus_reach.specs.Components.{component_of}
+use Rattle.bus_plan.specs.Reach.Components.{component_of}
 use Rattle.bus_links.specs.LinkDrivers.{LinkDriversData}
 use Rattle.bus_links.specs.Links.{LinkData, flags, flag_at, tree_links}
 

@@ -3,7 +3,7 @@ use Rattle.std.specs.Prelude.{◌≡◌, ℕ, Bool, if◌then◌else◌, List, N
 use Rattle.dt_tree.specs.NodeData.{NodeData}
 use Rattle.bus_plan.specs.Plan.{PlannedDevice}
 use Rattle.bus_drivers.specs.Nodes.{tree_devices}
-use Rattle.bus_reach.specs.Components.{AreComponents}
+use Rattle.bus_plan.specs.Reach.Components.{AreComponents}
 use Rattle.bus_links.specs.LinkDrivers.{LinkDriversData}
 use Rattle.bus_links.specs.LinkPlan.{is_relaxed, counted_plan, relaxed_plan, tree_refusal}
 use Rattle.bus_links.specs.Links.{LinkData, WarningData, flags, flag_at, tree_links, tree_warnings}

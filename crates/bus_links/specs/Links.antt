@@ -8,8 +8,8 @@ use Rattle.bus_plan.specs.PlanPaths.{is_among}
 use Rattle.bus_drivers.specs.Nodes.{TreeDevice, tree_devices}
 use Rattle.bus_drivers.specs.TreePlan.{compatible_strings}
 use Rattle.bus_links.specs.LinkDrivers.{LinkDriversData}
-use Rattle.bus_bindings.specs.LinkNodes.{LinkNode, node_at, tree_nodes, device_places}
-use Rattle.bus_bindings.specs.Mentions.{MentionData, FaultData, FoundData, found_at}
+use Rattle.bus_links.specs.Bindings.LinkNodes.{LinkNode, node_at, tree_nodes, device_places}
+use Rattle.bus_links.specs.Bindings.Mentions.{MentionData, FaultData, FoundData, found_at}
 
 -- the consumer waits for the supplier, by this entry of the consumer's property, or because that is the bus above it
 pub record LinkData : Type 0 where

@@ -1,9 +1,9 @@
 //! The bus above a device.
 ghost use Rattle.std.specs.Prelude.{◌≡◌, ◌++◌, IfOk, OnOk};
-ghost use Rattle.bus_bindings.specs.LinkNodes.{own_places, device_places};
+ghost use Rattle.bus_links.specs.Bindings.LinkNodes.{own_places, device_places};
 ghost use Rattle.bus_links.specs.Links.{bus_above, is_bus_for};
 
-use bus_bindings::{LinkNode, Nodes};
+use crate::bindings::{LinkNode, Nodes};
 use bus_drivers::is_compatible;
 use std::alloc::{AllocError, Global};
 

@@ -1,6 +1,7 @@
 //! Plans out of trees by the links of Linux: the second way to a plan, over the same bus.
 #![tactic(auto)]
 
+pub mod bindings;
 mod bus_above;
 mod device_links;
 mod flags;
@@ -14,8 +15,8 @@ mod linking;
 mod links;
 mod relaxing;
 
-pub use bus_bindings::Strictness;
-pub use bus_reach::Cycle;
+pub use crate::bindings::Strictness;
+pub use bus_plan::reach::Cycle;
 pub use device_links::DeviceLinks;
 pub use laws::no_cycle_is_left;
 pub use link_drivers::LinkDrivers;

@@ -4,8 +4,8 @@ use crate::device_links::DeviceLinks;
 use crate::flags::flag_at;
 use crate::links::{Link, Warning};
 use crate::relaxing::is_relaxed;
+use bus_plan::reach::{Cycle, cycles_of};
 use bus_plan::{Device, Plan};
-use bus_reach::{Cycle, cycles_of};
 use std::alloc::{AllocError, Global};
 use std::marker::Model;
 

@@ -1,13 +1,13 @@
 //! The links of a tree's devices.
 ghost use Rattle.std.specs.Prelude.{◌≡◌, ◌++◌, IfOk, OnOk, map};
 ghost use Rattle.std.specs.Option.{option_to_list};
-ghost use Rattle.bus_bindings.specs.BindingView.{is_strict};
+ghost use Rattle.bus_links.specs.Bindings.BindingView.{is_strict};
 ghost use Rattle.bus_links.specs.Links.{is_below, supplies, supplier_at, supplier_of, link_by, links_by, bus_above, bus_link, links_of, warned, warnings_of, node_of, links_from, warnings_from};
 
+use crate::bindings::{Fault, Found, Mention, Nodes, Strictness};
 use crate::bus_above::bus_above;
 use crate::device_links::DeviceLinks;
 use crate::links::{Link, Warning};
-use bus_bindings::{Fault, Found, Mention, Nodes, Strictness};
 use bus_drivers::TreeDevice;
 use bus_plan::Device;
 use std::alloc::{AllocError, Global};

@@ -2,7 +2,7 @@
 ghost use Rattle.std.specs.Prelude.{◌≡◌, IfOk, OnOk, map, filter};
 ghost use Rattle.bus_drivers.specs.TreePlan.{planned_device};
 ghost use Rattle.bus_drivers.specs.Private.Suppliers.{with_mentions};
-ghost use Rattle.bus_reach.specs.Components.{component_of};
+ghost use Rattle.bus_plan.specs.Reach.Components.{component_of};
 ghost use Rattle.bus_links.specs.LinkPlan.{is_relaxed, suppliers_by, links_at, planned_by};
 ghost use Rattle.bus_links.specs.Private.Counting.{passes};
 

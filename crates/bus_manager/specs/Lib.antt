@@ -1,8 +1,8 @@
 pub mod Events
 pub mod Keeper
 pub mod Notes
-pub mod Prober
 pub mod Private
+pub mod Prober
 pub mod Run
 pub mod RunError
 pub mod Seen

@@ -1,3 +1,4 @@
 mod EscapeLemmas
 mod RangeLemmas
 mod ShownLemmas
+pub mod WhyLemmas

@@ -5,9 +5,9 @@ use Rattle.std.proofs.lemmas.Bool.{eq-eqb, ne_eqb, cases_eq}
 use Rattle.std.proofs.lemmas.List.{get_or-set_same, get_or-set_other, get_or-replicate}
 use Rattle.bus_plan.specs.Plan.{PlannedDevice}
 use Rattle.bus_links.specs.Links.{flag_at}
-use Rattle.bus_reach.specs.declared.direction.Direction.TheVariants.{Suppliers, Consumers}
-use Rattle.bus_reach.specs.Reached.{is_in, AreFollowers}
-use Rattle.bus_reach.proofs.InLemmas.{some_or, or_left, or_right}
+use Rattle.bus_plan.specs.declared.reach.direction.Direction.TheVariants.{Suppliers, Consumers}
+use Rattle.bus_plan.specs.Reach.Reached.{is_in, AreFollowers}
+use Rattle.bus_plan.proofs.ReachLemmas.InLemmas.{some_or, or_left, or_right}
 use Rattle.bus_picture.specs.Shown.{IsAround}
 
 or_false : (a : Bool) → (a || false) ≡ a

@@ -2,7 +2,7 @@
 use Rattle.std.specs.Prelude.{◌≡◌, ℕ, ◌+◌, ◌==◌, Bool, if◌then◌else◌, List, [], ◌∷◌, ◌++◌, flat_map}
 use Rattle.bus_core.specs.Due.{devices}
 use Rattle.bus_plan.specs.Plan.{PlannedDevice, suppliers_of}
-use Rattle.bus_reach.specs.Components.{AreComponents, component_of}
+use Rattle.bus_plan.specs.Reach.Components.{AreComponents, component_of}
 use Rattle.bus_links.specs.Links.{LinkData}
 use Rattle.bus_links.specs.LinkPlan.{links_at}
 use Rattle.bus_links.specs.Linked.{LinkedData, standing_of}

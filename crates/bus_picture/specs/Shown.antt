@@ -2,7 +2,7 @@
 use Rattle.std.specs.Prelude.{◌≡◌, ◌⊎◌, ◌↔◌, ℕ, ◌<◌, Bool, true, List, Option, Some, None, length}
 use Rattle.bus_plan.specs.Plan.{PlannedDevice}
 use Rattle.bus_links.specs.Links.{flag_at}
-use Rattle.bus_reach.specs.Takes.{Takes}
+use Rattle.bus_plan.specs.Reach.Takes.{Takes}
 
 abbrev pub IsAround : List PlannedDevice → ℕ → ℕ → Type 0
 IsAround plan device d = Takes plan device d ⊎ Takes plan d device

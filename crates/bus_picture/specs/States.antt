@@ -5,7 +5,7 @@ use Rattle.bus_core.specs.Due.{devices}
 use Rattle.bus_core.specs.Report.{end_status}
 use Rattle.bus_core.specs.declared.status.Status.{Status}
 use Rattle.bus_core.specs.declared.status.Status.TheVariants as status
-use Rattle.bus_why.specs.Chain.{bound_by}
+use Rattle.bus_picture.specs.Why.Chain.{bound_by}
 use Rattle.bus_links.specs.Links.{flag_at}
 use Rattle.bus_links.specs.Linked.{LinkedData}
 use Rattle.bus_picture.specs.declared.states.State.{State}

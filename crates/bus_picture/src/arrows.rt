@@ -1,12 +1,12 @@
 //! The arrows of a picture: one for each link.
 ghost use Rattle.std.specs.Prelude.{◌≡◌, ◌<◌, ◌++◌, IfOk, OnOk, length, flat_map};
 ghost use Rattle.bus_core.specs.Due.{devices};
-ghost use Rattle.bus_reach.specs.Components.{component_of};
+ghost use Rattle.bus_plan.specs.Reach.Components.{component_of};
 ghost use Rattle.bus_picture.specs.Arrows.{tie_of, link_arrow, arrows_at, linked_arrows, supplier_arrow, planned_at, ArePlanned};
 
 use bus_links::{Link, Linked, Standing};
+use bus_plan::reach::components_of;
 use bus_plan::{Device, Plan};
-use bus_reach::components_of;
 use std::alloc::{AllocError, Global};
 
 /// How an arrow is drawn.

@@ -20,6 +20,7 @@ mod showing;
 mod sketch;
 mod states;
 mod tree;
+pub mod why;
 
 pub use arrows::{Arrow, Tie, linked_arrows, planned_arrows};
 pub use escape::add_escaped;

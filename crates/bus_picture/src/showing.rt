@@ -1,11 +1,11 @@
 //! Which devices a picture shows.
 ghost use Rattle.std.specs.Prelude.{◌≡◌, ◌<◌, ◌==◌, ◌||◌, ℕ, IfOk, IfSome, length};
 ghost use Rattle.bus_links.specs.Links.{flag_at};
-ghost use Rattle.bus_reach.specs.Reached.{is_in};
+ghost use Rattle.bus_plan.specs.Reach.Reached.{is_in};
 ghost use Rattle.bus_picture.specs.Shown.{AreShown};
 
+use bus_plan::reach::{Direction, reached};
 use bus_plan::{Device, Plan};
-use bus_reach::{Direction, reached};
 use std::alloc::{AllocError, Global};
 
 /// The flag of a device; none past the end.

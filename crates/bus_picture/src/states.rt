@@ -1,7 +1,7 @@
 //! What each device is drawn as.
 ghost use Rattle.std.specs.Prelude.{◌≡◌, ◌<◌, false, IfOk, length};
 ghost use Rattle.std.specs.List.{list_all};
-ghost use Rattle.bus_why.specs.Chain.{bound_by};
+ghost use Rattle.bus_picture.specs.Why.Chain.{bound_by};
 ghost use Rattle.bus_picture.specs.States.{state_of, linked_states, planned_states};
 
 use bus_links::Linked;

@@ -21,6 +21,7 @@ mod plan;
 mod plan_file;
 mod plan_line;
 mod planned;
+pub mod reach;
 mod reading;
 mod strings;
 mod strings_line;

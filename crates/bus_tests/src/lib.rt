@@ -5,21 +5,24 @@
 
 #[cfg(test)]
 mod chains;
-#[cfg(test)]
 mod cores;
-#[cfg(test)]
 mod counts;
 pub mod gate;
-#[cfg(test)]
 mod keepers;
-#[cfg(test)]
 mod late;
-#[cfg(test)]
+pub mod links;
+pub mod plan;
 mod registrations;
 pub mod replays;
-#[cfg(test)]
 mod runs;
 pub mod shapes;
-#[cfg(test)]
 mod told;
 pub mod watching;
+pub mod why;
+#[cfg(test)]
+#[cfg(test)]
+#[cfg(test)]
+#[cfg(test)]
+#[cfg(test)]
+#[cfg(test)]
+#[cfg(test)]

@@ -5,6 +5,7 @@ pub mod Blocks
 pub mod Format
 pub mod HeaderWords
 pub mod Holds
+pub mod Query
 pub mod SourceText
 pub mod Steps
 pub mod Strings

@@ -7,6 +7,7 @@ mod header;
 mod names;
 mod parts;
 mod printing;
+pub mod query;
 mod read_blob;
 mod read_blocks;
 mod read_header;

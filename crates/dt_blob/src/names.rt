@@ -7,7 +7,7 @@ ghost use Rattle.dt_blob.specs.Blob.{names_in};
 ghost use Rattle.dt_blob.specs.Steps.Table.{AreNames, with_sight, with_sights};
 ghost use Rattle.dt_blob.specs.Token.{tokens_of};
 
-use dt_key::KeyName;
+use dt_tree::key::KeyName;
 use dt_tree::{MAX_NAME_LEN, Name, Node, Property};
 use indexmap::IndexSet;
 use std::alloc::{AllocError, Global};

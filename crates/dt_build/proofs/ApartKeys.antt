@@ -4,13 +4,13 @@ use Rattle.std.specs.List.{flat_map}
 use Rattle.std.specs.Str.{bytes_eq}
 use Rattle.std.proofs.lemmas.Bool.{and_parts, and_from}
 use Rattle.dt_tree.specs.Sound.{is_among, are_distinct}
-use Rattle.dt_meaning.specs.Paths.{Path, same_path, is_listed}
-use Rattle.dt_meaning.specs.Edits.{Definition, is_of, Label}
-use Rattle.dt_meaning.specs.References.{held}
+use Rattle.dt_source.specs.TreeMeaning.Paths.{Path, same_path, is_listed}
+use Rattle.dt_source.specs.TreeMeaning.Edits.{Definition, is_of, Label}
+use Rattle.dt_source.specs.TreeMeaning.References.{held}
 use Rattle.dt_live.proofs.PathTests.{same-itself, same-is}
 use Rattle.dt_live.proofs.Each.{Each, each-append, each-more}
-use Rattle.dt_tree_builder.specs.Standing.{are_apart}
-use Rattle.dt_tree_builder.proofs.PathFacts.{not-both, not-true, listed-next}
+use Rattle.dt_live.specs.Builder.Standing.{are_apart}
+use Rattle.dt_live.proofs.BuilderLemmas.PathFacts.{not-both, not-true, listed-next}
 use Rattle.dt_build.proofs.ApartLists.{InPairs, each-passed, pairs-kept, pairs-behind}
 use Rattle.dt_build.proofs.NamedEdits.{HasOtherKey, IsOtherWord}
 

@@ -6,19 +6,19 @@ use Rattle.std.proofs.lemmas.Bool.{and_parts, and_from}
 use Rattle.std.proofs.lemmas.Slice.Eq.{bytes_eq-Decides}
 use Rattle.dt_tree.specs.Phandle.{is_reserved}
 use Rattle.dt_tree.specs.Sound.{are_distinct}
-use Rattle.dt_meaning.specs.Paths.{Path, same_path, is_listed}
-use Rattle.dt_meaning.specs.Syntax.{Piece}
-use Rattle.dt_meaning.specs.Edits.{Definition, State, is_of}
-use Rattle.dt_meaning.specs.References.{Found, held, preorder, in_order, references}
-use Rattle.dt_meaning.specs.Phandles.{PathPhandle, given_of, assigned, wanted}
-use Rattle.dt_meaning.specs.Resolved.{with_bytes, phandle_property}
+use Rattle.dt_source.specs.TreeMeaning.Paths.{Path, same_path, is_listed}
+use Rattle.dt_source.specs.TreeMeaning.Syntax.{Piece}
+use Rattle.dt_source.specs.TreeMeaning.Edits.{Definition, State, is_of}
+use Rattle.dt_source.specs.TreeMeaning.References.{Found, held, preorder, in_order, references}
+use Rattle.dt_source.specs.TreeMeaning.Phandles.{PathPhandle, given_of, assigned, wanted}
+use Rattle.dt_source.specs.TreeMeaning.Resolved.{with_bytes, phandle_property}
 use Rattle.dt_live.proofs.PathTests.{same-is}
 use Rattle.dt_live.proofs.Each.{Each, each-more, each-same}
-use Rattle.dt_tree_builder.specs.Standing.{AreNodes}
-use Rattle.dt_tree_builder.proofs.InTurn.{each-once}
-use Rattle.dt_tree_builder.proofs.Orders.{is_filled, marked, listed-marked}
-use Rattle.dt_tree_builder.proofs.PathFacts.{not-both}
-use Rattle.dt_tree_builder.proofs.Walks.{from-one}
+use Rattle.dt_live.specs.Builder.Standing.{AreNodes}
+use Rattle.dt_live.proofs.BuilderLemmas.InTurn.{each-once}
+use Rattle.dt_live.proofs.BuilderLemmas.Orders.{is_filled, marked, listed-marked}
+use Rattle.dt_live.proofs.BuilderLemmas.PathFacts.{not-both}
+use Rattle.dt_live.proofs.BuilderLemmas.Walks.{from-one}
 use Rattle.dt_build.proofs.ApartLists.{InPairs, each-from, pairs-same, pairs-from, pairs-more, pairs-behind}
 use Rattle.dt_build.proofs.ApartKeys.{distinct-held, pairs-in-order}
 use Rattle.dt_build.proofs.ApartPhandles.{paths, bare, keys-found, IsGiven, all-given, IsFree, IsOtherPath, AreNew, new-phandles}

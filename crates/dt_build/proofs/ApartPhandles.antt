@@ -5,17 +5,17 @@ use Rattle.std.specs.List.{flat_map, list_any}
 use Rattle.std.proofs.lemmas.Bool.{and_parts, and_from}
 use Rattle.dt_tree.specs.Steps.{then_do, each}
 use Rattle.dt_tree.specs.Phandle.{is_reserved}
-use Rattle.dt_meaning.specs.Paths.{Path, same_path, is_listed}
-use Rattle.dt_meaning.specs.Syntax.{OfLabel, OfPath, Piece, Plain, PhandleOf, PathOf, Stored}
-use Rattle.dt_meaning.specs.Edits.{Definition, definition, State, label_path}
-use Rattle.dt_meaning.specs.Statements.{DuplicatePhandle, ReservedName, found}
-use Rattle.dt_meaning.specs.References.{preorder, Found, Bytes, Cell, Open, PathText, cell_at, cell_of, cell_of_label, found_in, found_value}
-use Rattle.dt_meaning.specs.Phandles.{PathPhandle, path_phandle, has_phandle, is_phandle, phandle_value, given_one, given_of, cell_path, named_in_cells, labelled, new_ones, next_free, assigned, wanted}
+use Rattle.dt_source.specs.TreeMeaning.Paths.{Path, same_path, is_listed}
+use Rattle.dt_source.specs.TreeMeaning.Syntax.{OfLabel, OfPath, Piece, Plain, PhandleOf, PathOf, Stored}
+use Rattle.dt_source.specs.TreeMeaning.Edits.{Definition, definition, State, label_path}
+use Rattle.dt_source.specs.TreeMeaning.Statements.{DuplicatePhandle, ReservedName, found}
+use Rattle.dt_source.specs.TreeMeaning.References.{preorder, Found, Bytes, Cell, Open, PathText, cell_at, cell_of, cell_of_label, found_in, found_value}
+use Rattle.dt_source.specs.TreeMeaning.Phandles.{PathPhandle, path_phandle, has_phandle, is_phandle, phandle_value, given_one, given_of, cell_path, named_in_cells, labelled, new_ones, next_free, assigned, wanted}
 use Rattle.dt_live.proofs.PathTests.{same-itself}
 use Rattle.dt_live.proofs.Each.{Each, each-append, each-more}
-use Rattle.dt_tree_builder.specs.Standing.{are_apart}
-use Rattle.dt_tree_builder.proofs.PathFacts.{not-both, not-true, or-false, or-right, other-side}
-use Rattle.dt_tree_builder.proofs.Standing.{listed-both}
+use Rattle.dt_live.specs.Builder.Standing.{are_apart}
+use Rattle.dt_live.proofs.BuilderLemmas.PathFacts.{not-both, not-true, or-false, or-right, other-side}
+use Rattle.dt_live.proofs.BuilderLemmas.Standing.{listed-both}
 use Rattle.dt_build.proofs.ApartLists.{InPairs, each-passed}
 use Rattle.dt_build.proofs.NamedEdits.{did, ok-is, not-refused}
 

@@ -8,19 +8,19 @@ use Rattle.dt_tree.specs.TreeData.{TreeData, is_reserve, tree_data}
 use Rattle.dt_source.specs.declared.tree.Source.{Source}
 use Rattle.dt_source.specs.Lawful.{IsLawful}
 use Rattle.dt_source.specs.Meaning.{meaning_of}
-use Rattle.dt_meaning.specs.Edits.{Definition}
-use Rattle.dt_meaning.specs.MapOf.{map_of, tree_map_of}
-use Rattle.dt_meaning.specs.References.{Found}
-use Rattle.dt_meaning.specs.Resolved.{is_too_deep, names_taken, resolved, shallow}
-use Rattle.dt_edit.specs.Said.{tree_of}
-use Rattle.dt_resolve.specs.declared.error.BuildError.{BuildError}
-use Rattle.dt_resolve.specs.declared.node_phandles.NodePhandle.{NodePhandle}
-use Rattle.dt_resolve.specs.declared.prepared.Prepared.{Prepared}
-use Rattle.dt_resolve.specs.Prepared.{IsPrepared}
+use Rattle.dt_source.specs.TreeMeaning.Edits.{Definition}
+use Rattle.dt_source.specs.TreeMeaning.MapOf.{map_of, tree_map_of}
+use Rattle.dt_source.specs.TreeMeaning.References.{Found}
+use Rattle.dt_source.specs.TreeMeaning.Resolved.{is_too_deep, names_taken, resolved, shallow}
+use Rattle.dt_build.specs.Edit.Said.{tree_of}
+use Rattle.dt_build.specs.declared.resolve.error.BuildError.{BuildError}
+use Rattle.dt_build.specs.declared.resolve.node_phandles.NodePhandle.{NodePhandle}
+use Rattle.dt_build.specs.declared.resolve.prepared.Prepared.{Prepared}
+use Rattle.dt_build.specs.Resolve.Prepared.{IsPrepared}
 use Rattle.dt_build.specs.declared.draft.Draft.{Draft}
 use Rattle.dt_build.specs.Private.Drafts.{drafted}
-use Rattle.dt_resolve.specs.BuildFault.{IsFault}
-use Rattle.dt_resolve.proofs.Faults.{fault-same}
+use Rattle.dt_build.specs.Resolve.BuildFault.{IsFault}
+use Rattle.dt_build.proofs.ResolveLemmas.Faults.{fault-same}
 use Rattle.dt_build.specs.Built.{Builds, IsBuilt, Refuses}
 use Rattle.dt_build.specs.BuiltByDtc.{booting}
 use Rattle.dt_build.specs.Private.Fitting.{IsFitting, IsPreparedFrom, MakesTree}

@@ -11,10 +11,10 @@ use Rattle.std.proofs.lemmas.Map.Text.{btree_map_updates_str}
 use Rattle.std.proofs.lemmas.Slice.Eq.{bytes_eq-Decides}
 use denote.Ref.{Bor}
 use Rattle.dt_tree.proofs.SeenNames.{bytes_eq-comm}
-use Rattle.dt_meaning.specs.Paths.{Path, same_path}
-use Rattle.dt_meaning.specs.Edits.{Definition, definition, is_of}
-use Rattle.dt_meaning.specs.Fixups.{appended}
-use Rattle.dt_tree_builder.proofs.PathFacts.{same-itself, bytes-itself}
+use Rattle.dt_source.specs.TreeMeaning.Paths.{Path, same_path}
+use Rattle.dt_source.specs.TreeMeaning.Edits.{Definition, definition, is_of}
+use Rattle.dt_source.specs.TreeMeaning.Fixups.{appended}
+use Rattle.dt_live.proofs.BuilderLemmas.PathFacts.{same-itself, bytes-itself}
 use Rattle.dt_build.specs.declared.fixups_by_label.LabelFixups.{LabelFixups}
 use Rattle.dt_build.specs.Private.ByLabel.{fixups_path, given, index_of}
 

@@ -5,21 +5,21 @@ use Rattle.std.specs.Str.{bytes_eq}
 use Rattle.std.proofs.lemmas.Bool.{and_parts}
 use Rattle.dt_source.specs.declared.tree.Part.{Part}
 use Rattle.dt_source.specs.declared.tree.Part.TheVariants as parts
-use Rattle.dt_meaning.specs.Paths.{Path, same_path}
-use Rattle.dt_meaning.specs.Edits.{Definition}
-use Rattle.dt_meaning.specs.Fixups.{Site, sites, sites_in}
-use Rattle.dt_meaning.specs.Phandles.{PathPhandle}
-use Rattle.dt_meaning.specs.References.{Found, Bytes, Cell, Open, PathText, held, in_order, preorder}
-use Rattle.dt_meaning.specs.DtcResolved.{is_string_of, last_name, repeats_name}
+use Rattle.dt_source.specs.TreeMeaning.Paths.{Path, same_path}
+use Rattle.dt_source.specs.TreeMeaning.Edits.{Definition}
+use Rattle.dt_source.specs.TreeMeaning.Fixups.{Site, sites, sites_in}
+use Rattle.dt_source.specs.TreeMeaning.Phandles.{PathPhandle}
+use Rattle.dt_source.specs.TreeMeaning.References.{Found, Bytes, Cell, Open, PathText, held, in_order, preorder}
+use Rattle.dt_source.specs.TreeMeaning.DtcResolved.{is_string_of, last_name, repeats_name}
 use Rattle.dt_live.specs.declared.live_tree.LiveTree.{LiveTree}
 use Rattle.dt_live.specs.declared.live_tree.NodeRow.{NodeRow}
 use Rattle.dt_live.specs.declared.preorder.properties.NodeProperty.{NodeProperty}
 use Rattle.dt_live.specs.Rows.{node_path, path_of}
-use Rattle.dt_edit.specs.Said.{Parts, tree_of}
-use Rattle.dt_tree_builder.specs.Standing.{AreNodes}
-use Rattle.dt_tree_builder.proofs.InTurn.{each-once}
-use Rattle.dt_resolve.specs.Founds.{all_uses, found_of, found_property, found_properties, founds_of, text_for}
-use Rattle.dt_resolve.specs.Private.ReadProperty.{read_property}
+use Rattle.dt_build.specs.Edit.Said.{Parts, tree_of}
+use Rattle.dt_live.specs.Builder.Standing.{AreNodes}
+use Rattle.dt_live.proofs.BuilderLemmas.InTurn.{each-once}
+use Rattle.dt_build.specs.Resolve.Founds.{all_uses, found_of, found_property, found_properties, founds_of, text_for}
+use Rattle.dt_build.specs.Resolve.Private.ReadProperty.{read_property}
 use Rattle.dt_build.specs.Private.DtcDrafts.{kept_properties, repeats}
 use Rattle.dt_build.proofs.ApartPhandles.{bare}
 use Rattle.dt_build.proofs.WalkOrder.{walked-made}

@@ -2,22 +2,22 @@
 use Rattle.std.proofs.Common.{◌≡◌, Bool, true, false, not, ◌||◌, List, [], ◌∷◌, ◌++◌, Result, Ok, refl, sym, ap, ◌∙◌, subst, true≢false}
 use Rattle.std.specs.List.{filter, list_any}
 use Rattle.dt_tree.specs.Steps.{then_do}
-use Rattle.dt_meaning.specs.Paths.{Path, same_path, is_listed, is_within}
-use Rattle.dt_meaning.specs.Edits.{Definition}
-use Rattle.dt_meaning.specs.Phandles.{PathPhandle, named_in_cells, new_ones}
-use Rattle.dt_meaning.specs.References.{Found, references}
-use Rattle.dt_meaning.specs.Resolved.{names_taken, when}
-use Rattle.dt_meaning.specs.Statements.{Fault, ReservedName}
-use Rattle.dt_meaning.specs.Places.{what_stands}
-use Rattle.dt_meaning.specs.DtcEdits.{DtcTree}
-use Rattle.dt_meaning.specs.DtcPhandles.{given_by_both, number_before_last, numbers_of_cells, numbers_of_symbols}
-use Rattle.dt_meaning.specs.DtcResolved as meaning
-use Rattle.dt_meaning.specs.DtcResolved.{fixed_up, goes, is_left, rest_of, symbol_nodes}
-use Rattle.dt_meaning.specs.DtcStatements.{dtc_state}
+use Rattle.dt_source.specs.TreeMeaning.Paths.{Path, same_path, is_listed, is_within}
+use Rattle.dt_source.specs.TreeMeaning.Edits.{Definition}
+use Rattle.dt_source.specs.TreeMeaning.Phandles.{PathPhandle, named_in_cells, new_ones}
+use Rattle.dt_source.specs.TreeMeaning.References.{Found, references}
+use Rattle.dt_source.specs.TreeMeaning.Resolved.{names_taken, when}
+use Rattle.dt_source.specs.TreeMeaning.Statements.{Fault, ReservedName}
+use Rattle.dt_source.specs.TreeMeaning.Places.{what_stands}
+use Rattle.dt_source.specs.TreeMeaning.DtcEdits.{DtcTree}
+use Rattle.dt_source.specs.TreeMeaning.DtcPhandles.{given_by_both, number_before_last, numbers_of_cells, numbers_of_symbols}
+use Rattle.dt_source.specs.TreeMeaning.DtcResolved as meaning
+use Rattle.dt_source.specs.TreeMeaning.DtcResolved.{fixed_up, goes, is_left, rest_of, symbol_nodes}
+use Rattle.dt_source.specs.TreeMeaning.DtcStatements.{dtc_state}
 use Rattle.dt_live.proofs.Each.{Each, each-kept}
 use Rattle.dt_live.proofs.PathTests.{same-is}
-use Rattle.dt_resolve.specs.Gathered.{all_gathered}
-use Rattle.dt_resolve.proofs.Without.{map-left}
+use Rattle.dt_build.specs.Resolve.Gathered.{all_gathered}
+use Rattle.dt_build.proofs.ResolveLemmas.Without.{map-left}
 use Rattle.dt_build.proofs.ApartLists.{InPairs, each-any, each-passed}
 use Rattle.dt_build.proofs.ApartPhandles.{IsOtherPath, assigned-paths, ones-apart, ones-unseen, paths}
 use Rattle.dt_build.proofs.DtcNumbers.{added-apart, added-unseen}

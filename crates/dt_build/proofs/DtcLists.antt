@@ -3,24 +3,24 @@ use Rattle.std.proofs.Common.{◌≡◌, ℕ, Bool, true, false, not, ◌||◌, 
 use Rattle.std.specs.List.{filter, list_any}
 use mathlib.Core.List.{reverse_aux}
 use Rattle.std.proofs.lemmas.Bool.{or_right}
-use Rattle.dt_meaning.specs.Names.{symbols_name}
-use Rattle.dt_meaning.specs.Paths.{Path, same_path}
-use Rattle.dt_meaning.specs.Edits.{Definition, Label, has_node}
-use Rattle.dt_meaning.specs.Fixups.{Site, sites, fixups, local_fixups}
-use Rattle.dt_meaning.specs.Places.{Row, has_place, what_stands}
-use Rattle.dt_meaning.specs.References.{Found, preorder}
-use Rattle.dt_meaning.specs.Resolved.{Resolved, phandle_property, symbol, when, with_bytes, with_more}
-use Rattle.dt_meaning.specs.DtcEdits.{DtcTree, ever_labelled, in_preorder}
-use Rattle.dt_meaning.specs.DtcPhandles.{asks_for_own}
-use Rattle.dt_meaning.specs.DtcResolved as meaning
-use Rattle.dt_meaning.specs.DtcResolved.{all_numbers, gathered_tree, is_left, symbols_node, with_numbers, with_symbols}
-use Rattle.dt_meaning.specs.DtcStatements.{dtc_labels}
+use Rattle.dt_source.specs.TreeMeaning.Names.{symbols_name}
+use Rattle.dt_source.specs.TreeMeaning.Paths.{Path, same_path}
+use Rattle.dt_source.specs.TreeMeaning.Edits.{Definition, Label, has_node}
+use Rattle.dt_source.specs.TreeMeaning.Fixups.{Site, sites, fixups, local_fixups}
+use Rattle.dt_source.specs.TreeMeaning.Places.{Row, has_place, what_stands}
+use Rattle.dt_source.specs.TreeMeaning.References.{Found, preorder}
+use Rattle.dt_source.specs.TreeMeaning.Resolved.{Resolved, phandle_property, symbol, when, with_bytes, with_more}
+use Rattle.dt_source.specs.TreeMeaning.DtcEdits.{DtcTree, ever_labelled, in_preorder}
+use Rattle.dt_source.specs.TreeMeaning.DtcPhandles.{asks_for_own}
+use Rattle.dt_source.specs.TreeMeaning.DtcResolved as meaning
+use Rattle.dt_source.specs.TreeMeaning.DtcResolved.{all_numbers, gathered_tree, is_left, symbols_node, with_numbers, with_symbols}
+use Rattle.dt_source.specs.TreeMeaning.DtcStatements.{dtc_labels}
 use Rattle.dt_live.proofs.Each.{Each, each-flat, each-kept, each-more}
 use Rattle.dt_live.proofs.PathTests.{same-itself}
-use Rattle.dt_edit.specs.Said.{tree_of}
-use Rattle.dt_resolve.specs.declared.gathered.Gathered.{Gathered}
-use Rattle.dt_resolve.specs.Founds.{found_properties}
-use Rattle.dt_resolve.specs.Gathered.{IsGathered, targets_anew}
+use Rattle.dt_build.specs.Edit.Said.{tree_of}
+use Rattle.dt_build.specs.declared.resolve.gathered.Gathered.{Gathered}
+use Rattle.dt_build.specs.Resolve.Founds.{found_properties}
+use Rattle.dt_build.specs.Resolve.Gathered.{IsGathered, targets_anew}
 use Rattle.dt_live.specs.Rows.{node_path}
 use Rattle.dt_build.specs.declared.draft.Draft.{Draft}
 use Rattle.dt_build.specs.Private.Made.{added_phandles, all_phandles, bare_node, fixed, founds, is_fixed, lists, made_sites, plain_lists, symbol_lists, with_nodes}

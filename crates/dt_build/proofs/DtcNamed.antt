@@ -6,20 +6,20 @@ use Rattle.std.proofs.lemmas.Bool.{and_parts}
 use Rattle.std.proofs.lemmas.Bool.Decides.{nat_tests}
 use Rattle.dt_source.specs.Lawful.{IsLawful, IsLawfulTarget, IsLawfulPiece, IsLawfulEntry, IsLawfulBody, IsLawfulEdit}
 use Rattle.dt_tree.proofs.SeenNames.{bytes_eq-comm}
-use Rattle.dt_meaning.specs.Paths.{Path, is_listed, same_path}
-use Rattle.dt_meaning.specs.Syntax.{Target, OfLabel, OfPath, Piece, PhandleOf, PathOf, Entry, Defines, Undefines, Child, Removes, Body, Done, Then, Edit, Rooted, Extends, Deletes, Omits, Meaning}
-use Rattle.dt_meaning.specs.Edits.{Definition, Label, State, has_node, is_of}
-use Rattle.dt_meaning.specs.Resolved.{is_too_deep}
-use Rattle.dt_meaning.specs.DtcEdits.{DtcTree}
-use Rattle.dt_meaning.specs.DtcLaws.{TargetHas, PieceHas, ValueHas, EntryHas, BodyHas, EditHas, FragmentsHave, IsSoundState}
-use Rattle.dt_meaning.specs.DtcResolved.{rest_of}
-use Rattle.dt_meaning.specs.DtcStatements.{dtc_edited, dtc_state, label_twice, same_label}
-use Rattle.dt_meaning.specs.Seen.{are_once, properties_once}
-use Rattle.dt_meaning.proofs.DtcRest.{rest-sound}
-use Rattle.dt_meaning.proofs.DtcSound.{dtc-sound}
+use Rattle.dt_source.specs.TreeMeaning.Paths.{Path, is_listed, same_path}
+use Rattle.dt_source.specs.TreeMeaning.Syntax.{Target, OfLabel, OfPath, Piece, PhandleOf, PathOf, Entry, Defines, Undefines, Child, Removes, Body, Done, Then, Edit, Rooted, Extends, Deletes, Omits, Meaning}
+use Rattle.dt_source.specs.TreeMeaning.Edits.{Definition, Label, State, has_node, is_of}
+use Rattle.dt_source.specs.TreeMeaning.Resolved.{is_too_deep}
+use Rattle.dt_source.specs.TreeMeaning.DtcEdits.{DtcTree}
+use Rattle.dt_source.specs.TreeMeaning.DtcLaws.{TargetHas, PieceHas, ValueHas, EntryHas, BodyHas, EditHas, FragmentsHave, IsSoundState}
+use Rattle.dt_source.specs.TreeMeaning.DtcResolved.{rest_of}
+use Rattle.dt_source.specs.TreeMeaning.DtcStatements.{dtc_edited, dtc_state, label_twice, same_label}
+use Rattle.dt_source.specs.TreeMeaning.Seen.{are_once, properties_once}
+use Rattle.dt_source.proofs.TreeMeaningLemmas.DtcRest.{rest-sound}
+use Rattle.dt_source.proofs.TreeMeaningLemmas.DtcSound.{dtc-sound}
 use Rattle.dt_live.proofs.Each.{Each, each-more, each-of}
-use Rattle.dt_tree_builder.specs.Standing.{AreNodes, are_apart}
-use Rattle.dt_tree_builder.proofs.PathFacts.{not-true, or-false}
+use Rattle.dt_live.specs.Builder.Standing.{AreNodes, are_apart}
+use Rattle.dt_live.proofs.BuilderLemmas.PathFacts.{not-true, or-false}
 use Rattle.dt_build.proofs.ApartLists.{InPairs}
 use Rattle.dt_build.proofs.FragmentNames.{fragment-named, overlay-named, target-named}
 use Rattle.dt_build.proofs.NamedEdits.{HasOtherKey, IsOtherWord, IsNamed, IsNamedPath, IsNamedPiece, IsNamedValue, listed-so}

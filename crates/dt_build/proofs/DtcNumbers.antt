@@ -5,17 +5,17 @@ use Rattle.std.specs.List.{filter}
 use Rattle.std.specs.Str.{bytes_eq}
 use Rattle.std.proofs.lemmas.Bool.{and_parts}
 use Rattle.std.proofs.lemmas.Slice.Eq.{bytes_eq-Decides}
-use Rattle.dt_meaning.specs.Paths.{Path, same_path, is_listed}
-use Rattle.dt_meaning.specs.Edits.{Definition, is_of}
-use Rattle.dt_meaning.specs.Fixups.{phandle_of}
-use Rattle.dt_meaning.specs.Phandles.{PathPhandle}
-use Rattle.dt_meaning.specs.References.{Found}
-use Rattle.dt_meaning.specs.Resolved.{phandle_property, with_bytes}
-use Rattle.dt_meaning.specs.DtcResolved.{has_own}
+use Rattle.dt_source.specs.TreeMeaning.Paths.{Path, same_path, is_listed}
+use Rattle.dt_source.specs.TreeMeaning.Edits.{Definition, is_of}
+use Rattle.dt_source.specs.TreeMeaning.Fixups.{phandle_of}
+use Rattle.dt_source.specs.TreeMeaning.Phandles.{PathPhandle}
+use Rattle.dt_source.specs.TreeMeaning.References.{Found}
+use Rattle.dt_source.specs.TreeMeaning.Resolved.{phandle_property, with_bytes}
+use Rattle.dt_source.specs.TreeMeaning.DtcResolved.{has_own}
 use Rattle.dt_live.proofs.Each.{Each, each-append, each-more, each-kept, each-same}
 use Rattle.dt_live.proofs.PathTests.{same-is, same-itself}
-use Rattle.dt_tree_builder.proofs.PathFacts.{not-both, or-false}
-use Rattle.dt_tree_builder.proofs.Standing.{listed-both}
+use Rattle.dt_live.proofs.BuilderLemmas.PathFacts.{not-both, or-false}
+use Rattle.dt_live.proofs.BuilderLemmas.Standing.{listed-both}
 use Rattle.dt_build.proofs.ApartLists.{InPairs, pairs-behind, pairs-from, pairs-kept, pairs-more, pairs-same}
 use Rattle.dt_build.proofs.ApartPhandles.{IsOtherPath, paths}
 use Rattle.dt_build.proofs.DtcFounds.{kept-append}

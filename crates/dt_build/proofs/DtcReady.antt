@@ -8,37 +8,37 @@ use Rattle.std.specs.Str.{bytes_eq}
 use Rattle.std.proofs.lemmas.Bool.{and_parts, eqb-true, eq-eqb}
 use Rattle.dt_tree.specs.Name.{is_name}
 use Rattle.dt_tree.specs.Sound.{are_distinct}
-use Rattle.dt_meaning.specs.Paths.{Path, same_path, is_listed}
-use Rattle.dt_meaning.specs.Syntax.{Piece}
-use Rattle.dt_meaning.specs.Edits.{Definition, has_node}
-use Rattle.dt_meaning.specs.Fixups.{phandle_of}
-use Rattle.dt_meaning.specs.Phandles.{PathPhandle}
-use Rattle.dt_meaning.specs.References.{Found, held, in_order, preorder, references}
-use Rattle.dt_meaning.specs.Resolved.{phandle_property, when, with_bytes}
-use Rattle.dt_meaning.specs.DtcEdits.{DtcTree}
-use Rattle.dt_meaning.specs.DtcPhandles.{asks_for_own}
-use Rattle.dt_meaning.specs.DtcResolved as meaning
-use Rattle.dt_meaning.specs.DtcResolved.{fixed_up, has_own, repeats_name}
+use Rattle.dt_source.specs.TreeMeaning.Paths.{Path, same_path, is_listed}
+use Rattle.dt_source.specs.TreeMeaning.Syntax.{Piece}
+use Rattle.dt_source.specs.TreeMeaning.Edits.{Definition, has_node}
+use Rattle.dt_source.specs.TreeMeaning.Fixups.{phandle_of}
+use Rattle.dt_source.specs.TreeMeaning.Phandles.{PathPhandle}
+use Rattle.dt_source.specs.TreeMeaning.References.{Found, held, in_order, preorder, references}
+use Rattle.dt_source.specs.TreeMeaning.Resolved.{phandle_property, when, with_bytes}
+use Rattle.dt_source.specs.TreeMeaning.DtcEdits.{DtcTree}
+use Rattle.dt_source.specs.TreeMeaning.DtcPhandles.{asks_for_own}
+use Rattle.dt_source.specs.TreeMeaning.DtcResolved as meaning
+use Rattle.dt_source.specs.TreeMeaning.DtcResolved.{fixed_up, has_own, repeats_name}
 use Rattle.dt_live.specs.declared.live_tree.LiveTree.{LiveTree}
 use Rattle.dt_live.specs.declared.preorder.properties.NodeProperty.{NodeProperty}
 use Rattle.dt_live.specs.Rows.{IsNode, is_standing, node_path}
 use Rattle.dt_live.proofs.Each.{Each, each-all, each-kept, each-more, each-of}
 use Rattle.dt_live.proofs.PathTests.{same-is, same-itself}
 use Rattle.dt_live.proofs.Runs.{HasName, all-named as runs-named}
-use Rattle.dt_edit.specs.Said.{Parts, tree_of}
-use Rattle.dt_tree_builder.specs.Standing.{AreNodes}
-use Rattle.dt_tree_builder.proofs.InTurn.{each-once}
-use Rattle.dt_resolve.specs.declared.gathered.Gathered.{Gathered}
-use Rattle.dt_resolve.specs.declared.node_phandles.NodePhandle.{NodePhandle}
-use Rattle.dt_resolve.specs.Founds.{all_uses, found_properties}
-use Rattle.dt_resolve.specs.Gathered.{IsAmong, IsGathered, all_gathered, targets_anew}
-use Rattle.dt_resolve.specs.NodePhandles.{AreStanding, path_phandle_of}
-use Rattle.dt_resolve.specs.Private.ReadProperty.{read_property}
-use Rattle.dt_resolve.specs.Targets.{IsToldApart}
-use Rattle.dt_resolve.proofs.GoneNodes.{stands-known}
-use Rattle.dt_resolve.proofs.PathPhandles.{turned}
-use Rattle.dt_resolve.proofs.ReadOrder.{read-order}
-use Rattle.dt_resolve.proofs.Without.{each-both, map-left}
+use Rattle.dt_build.specs.Edit.Said.{Parts, tree_of}
+use Rattle.dt_live.specs.Builder.Standing.{AreNodes}
+use Rattle.dt_live.proofs.BuilderLemmas.InTurn.{each-once}
+use Rattle.dt_build.specs.declared.resolve.gathered.Gathered.{Gathered}
+use Rattle.dt_build.specs.declared.resolve.node_phandles.NodePhandle.{NodePhandle}
+use Rattle.dt_build.specs.Resolve.Founds.{all_uses, found_properties}
+use Rattle.dt_build.specs.Resolve.Gathered.{IsAmong, IsGathered, all_gathered, targets_anew}
+use Rattle.dt_build.specs.Resolve.NodePhandles.{AreStanding, path_phandle_of}
+use Rattle.dt_build.specs.Resolve.Private.ReadProperty.{read_property}
+use Rattle.dt_build.specs.Resolve.Targets.{IsToldApart}
+use Rattle.dt_build.proofs.ResolveLemmas.GoneNodes.{stands-known}
+use Rattle.dt_build.proofs.ResolveLemmas.PathPhandles.{turned}
+use Rattle.dt_build.proofs.ResolveLemmas.ReadOrder.{read-order}
+use Rattle.dt_build.proofs.ResolveLemmas.Without.{each-both, map-left}
 use Rattle.dt_build.specs.declared.draft.Draft.{Draft}
 use Rattle.dt_build.specs.Private.DtcDrafts.{dtc_drafted, has_own_row, is_added, kept_properties, repeats}
 use Rattle.dt_build.specs.Private.FirstPhandle.{IsByPath, IsOfPath, first_phandle, number_of}

@@ -3,32 +3,32 @@ use Rattle.std.proofs.Common.{◌≡◌, ℕ, Bool, true, false, ◌&&◌, ◌||
 use Rattle.std.specs.List.{filter, list_any}
 use Rattle.dt_tree.specs.Steps.{then_do}
 use Rattle.dt_tree.specs.TreeData.{TreeData}
-use Rattle.dt_meaning.specs.Names.{symbols_name, fixups_name, local_fixups_name}
-use Rattle.dt_meaning.specs.Paths.{Path, same_path, is_listed}
-use Rattle.dt_meaning.specs.Syntax.{Meaning, Piece}
-use Rattle.dt_meaning.specs.Edits.{State}
-use Rattle.dt_meaning.specs.References.{references}
-use Rattle.dt_meaning.specs.Resolved.{Resolved, has_child, is_too_deep, names_taken, shallow}
-use Rattle.dt_meaning.specs.Statements.{Fault, ReservedName, TooDeep}
-use Rattle.dt_meaning.specs.BootProcessor.{boot_processor}
-use Rattle.dt_meaning.specs.DtcEdits.{DtcTree}
-use Rattle.dt_meaning.specs.DtcPhandles.{given_by_both}
-use Rattle.dt_meaning.specs.DtcResolved as meaning
-use Rattle.dt_meaning.specs.DtcResolved.{dtc_resolved, gathered_tree, is_left, resolved_tree, rest_of}
-use Rattle.dt_meaning.specs.DtcStatements.{dtc_edited, dtc_state}
+use Rattle.dt_source.specs.TreeMeaning.Names.{symbols_name, fixups_name, local_fixups_name}
+use Rattle.dt_source.specs.TreeMeaning.Paths.{Path, same_path, is_listed}
+use Rattle.dt_source.specs.TreeMeaning.Syntax.{Meaning, Piece}
+use Rattle.dt_source.specs.TreeMeaning.Edits.{State}
+use Rattle.dt_source.specs.TreeMeaning.References.{references}
+use Rattle.dt_source.specs.TreeMeaning.Resolved.{Resolved, has_child, is_too_deep, names_taken, shallow}
+use Rattle.dt_source.specs.TreeMeaning.Statements.{Fault, ReservedName, TooDeep}
+use Rattle.dt_source.specs.TreeMeaning.BootProcessor.{boot_processor}
+use Rattle.dt_source.specs.TreeMeaning.DtcEdits.{DtcTree}
+use Rattle.dt_source.specs.TreeMeaning.DtcPhandles.{given_by_both}
+use Rattle.dt_source.specs.TreeMeaning.DtcResolved as meaning
+use Rattle.dt_source.specs.TreeMeaning.DtcResolved.{dtc_resolved, gathered_tree, is_left, resolved_tree, rest_of}
+use Rattle.dt_source.specs.TreeMeaning.DtcStatements.{dtc_edited, dtc_state}
 use Rattle.dt_source.specs.Lawful.{IsLawful}
-use Rattle.dt_meaning.specs.DtcLaws.{IsSoundState}
-use Rattle.dt_edit.specs.declared.standing.Standing.{Standing}
-use Rattle.dt_edit.specs.declared.error.EditErrorKind.{EditErrorKind}
-use Rattle.dt_edit.specs.EditFault as edit
-use Rattle.dt_edit.specs.Said.{tree_of}
-use Rattle.dt_tree_builder.proofs.PathFacts.{or-false}
-use Rattle.dt_resolve.specs.declared.error.BuildError.{BuildError}
-use Rattle.dt_resolve.specs.declared.error.BuildErrorKind.{BuildErrorKind}
-use Rattle.dt_resolve.specs.declared.gathered.Gathered.{Gathered}
-use Rattle.dt_resolve.specs.BuildFault.{IsFault, build_error}
-use Rattle.dt_resolve.specs.Gathered.{IsGathered, all_gathered}
-use Rattle.dt_resolve.proofs.Faults.{edit-fault, fault-same, fault-then}
+use Rattle.dt_source.specs.TreeMeaning.DtcLaws.{IsSoundState}
+use Rattle.dt_build.specs.declared.edit.standing.Standing.{Standing}
+use Rattle.dt_build.specs.declared.edit.error.EditErrorKind.{EditErrorKind}
+use Rattle.dt_build.specs.Edit.EditFault as edit
+use Rattle.dt_build.specs.Edit.Said.{tree_of}
+use Rattle.dt_live.proofs.BuilderLemmas.PathFacts.{or-false}
+use Rattle.dt_build.specs.declared.resolve.error.BuildError.{BuildError}
+use Rattle.dt_build.specs.declared.resolve.error.BuildErrorKind.{BuildErrorKind}
+use Rattle.dt_build.specs.declared.resolve.gathered.Gathered.{Gathered}
+use Rattle.dt_build.specs.Resolve.BuildFault.{IsFault, build_error}
+use Rattle.dt_build.specs.Resolve.Gathered.{IsGathered, all_gathered}
+use Rattle.dt_build.proofs.ResolveLemmas.Faults.{edit-fault, fault-same, fault-then}
 use Rattle.dt_build.specs.declared.draft.Draft.{Draft}
 use Rattle.dt_build.specs.BuiltByDtc.{BuildsDtc, IsDtcBuilt}
 use Rattle.dt_build.specs.Private.DtcDrafts.{IsDtcDraft}

@@ -4,11 +4,11 @@ use Rattle.std.specs.Str.{bytes_eq}
 use Rattle.std.proofs.lemmas.Bool.{and_parts}
 use Rattle.std.proofs.lemmas.Slice.Eq.{bytes_eq-Decides}
 use Rattle.dt_tree.specs.Sound.{are_distinct}
-use Rattle.dt_meaning.specs.Names.{fixups_name}
-use Rattle.dt_meaning.specs.Paths.{Path, same_path}
-use Rattle.dt_meaning.specs.Edits.{Definition, definition, is_of}
-use Rattle.dt_meaning.specs.References.{held}
-use Rattle.dt_meaning.specs.Fixups.{Site, appended, fixup, fixups, site_text}
+use Rattle.dt_source.specs.TreeMeaning.Names.{fixups_name}
+use Rattle.dt_source.specs.TreeMeaning.Paths.{Path, same_path}
+use Rattle.dt_source.specs.TreeMeaning.Edits.{Definition, definition, is_of}
+use Rattle.dt_source.specs.TreeMeaning.References.{held}
+use Rattle.dt_source.specs.TreeMeaning.Fixups.{Site, appended, fixup, fixups, site_text}
 use Rattle.dt_live.proofs.PathTests.{same-is}
 use Rattle.dt_live.proofs.Each.{Each, each-more}
 use Rattle.dt_build.proofs.ApartLists.{InPairs}

@@ -3,19 +3,19 @@ use Rattle.std.proofs.Common.{◌≡◌, ℕ, ◌<◌, Bool, true, false, List, 
 use Rattle.dt_tree.specs.declared.property.Property.{Property}
 use Rattle.dt_tree.specs.NodeData.{NodeData, property_names}
 use Rattle.dt_tree.specs.Sound.{are_distinct}
-use Rattle.dt_meaning.specs.Names.{fixups_name}
-use Rattle.dt_meaning.specs.Paths.{Path, is_listed}
-use Rattle.dt_meaning.specs.Edits.{Definition, definition}
-use Rattle.dt_meaning.specs.References.{held}
-use Rattle.dt_meaning.specs.Fixups.{fixups, sites}
-use Rattle.dt_meaning.specs.Resolved.{names_taken, when, with_more}
+use Rattle.dt_source.specs.TreeMeaning.Names.{fixups_name}
+use Rattle.dt_source.specs.TreeMeaning.Paths.{Path, is_listed}
+use Rattle.dt_source.specs.TreeMeaning.Edits.{Definition, definition}
+use Rattle.dt_source.specs.TreeMeaning.References.{held}
+use Rattle.dt_source.specs.TreeMeaning.Fixups.{fixups, sites}
+use Rattle.dt_source.specs.TreeMeaning.Resolved.{names_taken, when, with_more}
 use Rattle.dt_live.proofs.Each.{Each}
-use Rattle.dt_tree_builder.specs.Lists.{defined_at, with_last}
-use Rattle.dt_tree_builder.specs.Builders.{built_lists}
-use Rattle.dt_tree_builder.specs.Standing.{walked}
-use Rattle.dt_tree_builder.proofs.Orders.{there-same}
-use Rattle.dt_tree_builder.proofs.MakingWalk.{names-defined, one-more}
-use Rattle.dt_edit.specs.Said.{tree_of}
+use Rattle.dt_live.specs.Builder.Lists.{defined_at, with_last}
+use Rattle.dt_live.specs.Builder.Builders.{built_lists}
+use Rattle.dt_live.specs.Builder.Standing.{walked}
+use Rattle.dt_live.proofs.BuilderLemmas.Orders.{there-same}
+use Rattle.dt_live.proofs.BuilderLemmas.MakingWalk.{names-defined, one-more}
+use Rattle.dt_build.specs.Edit.Said.{tree_of}
 use Rattle.dt_build.specs.declared.draft.Draft.{Draft}
 use Rattle.dt_build.specs.declared.fixups_by_label.LabelFixups.{LabelFixups}
 use Rattle.dt_build.specs.Private.ByLabel.{fixups_path, given}

@@ -3,11 +3,11 @@ use Rattle.std.proofs.Common.{◌≡◌, Bool, true, false, List, [], ◌∷◌,
 use Rattle.std.specs.Prelude.{All}
 use Rattle.dt_tree.specs.Steps.{then_do, each}
 use Rattle.dt_tree.specs.Phandle.{is_reserved}
-use Rattle.dt_meaning.specs.Paths.{Path, same_path}
-use Rattle.dt_meaning.specs.Syntax.{OfLabel, OfPath, Piece, Plain, PhandleOf, PathOf, Stored}
-use Rattle.dt_meaning.specs.Edits.{Definition, definition, State, label_path}
-use Rattle.dt_meaning.specs.Statements.{ReservedName, found}
-use Rattle.dt_meaning.specs.References.{Found, Bytes, Cell, Open, PathText, cell_at, cell_of, cell_of_label, found_in, found_value, held, in_order, preorder, references}
+use Rattle.dt_source.specs.TreeMeaning.Paths.{Path, same_path}
+use Rattle.dt_source.specs.TreeMeaning.Syntax.{OfLabel, OfPath, Piece, Plain, PhandleOf, PathOf, Stored}
+use Rattle.dt_source.specs.TreeMeaning.Edits.{Definition, definition, State, label_path}
+use Rattle.dt_source.specs.TreeMeaning.Statements.{ReservedName, found}
+use Rattle.dt_source.specs.TreeMeaning.References.{Found, Bytes, Cell, Open, PathText, cell_at, cell_of, cell_of_label, found_in, found_value, held, in_order, preorder, references}
 use Rattle.dt_live.proofs.Each.{Each, each-all, each-flat, each-kept, each-more}
 use Rattle.dt_build.specs.Private.Ready.{IsNamedFound}
 use Rattle.dt_build.proofs.ApartLists.{each-any}

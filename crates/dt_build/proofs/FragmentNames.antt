@@ -6,9 +6,9 @@ use Rattle.std.specs.List.{list_all}
 use Rattle.std.proofs.lemmas.Bool.{and_from}
 use Rattle.std.proofs.lemmas.Bool.Decides.{nat_tests}
 use Rattle.dt_tree.specs.Name.{is_name, is_name_byte}
-use Rattle.dt_meaning.specs.Names.{decimal, fragment_name, overlay_name}
-use Rattle.dt_meaning.specs.Syntax.{Target, OfLabel, OfPath}
-use Rattle.dt_meaning.specs.Statements.{target_name}
+use Rattle.dt_source.specs.TreeMeaning.Names.{decimal, fragment_name, overlay_name}
+use Rattle.dt_source.specs.TreeMeaning.Syntax.{Target, OfLabel, OfPath}
+use Rattle.dt_source.specs.TreeMeaning.Statements.{target_name}
 
 -- 1 to 255 bytes that can stand in a name
 pub name-of : (bytes : List ℕ) → 1 ≤ length bytes → length bytes ≤ 255 → list_all is_name_byte bytes ≡ true → is_name bytes ≡ true

@@ -1,9 +1,9 @@
 -- The properties of one node, where one is put in front.
 use Rattle.std.proofs.Common.{◌≡◌, false, List, ◌∷◌, cond, ap, ◌∙◌}
-use Rattle.dt_meaning.specs.Paths.{Path, same_path}
-use Rattle.dt_meaning.specs.Edits.{Definition}
-use Rattle.dt_meaning.specs.References.{held}
-use Rattle.dt_tree_builder.proofs.PathFacts.{same-itself}
+use Rattle.dt_source.specs.TreeMeaning.Paths.{Path, same_path}
+use Rattle.dt_source.specs.TreeMeaning.Edits.{Definition}
+use Rattle.dt_source.specs.TreeMeaning.References.{held}
+use Rattle.dt_live.proofs.BuilderLemmas.PathFacts.{same-itself}
 
 -- ---- the properties of one node
 module _ {V : Type 0} where

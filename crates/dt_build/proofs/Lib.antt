@@ -12,6 +12,7 @@ pub mod DtcNamed
 pub mod DtcNumbers
 pub mod DtcReady
 pub mod DtcSteps
+pub mod EditLemmas
 pub mod FixupLists
 pub mod FixupsMade
 pub mod FoundNames
@@ -45,6 +46,7 @@ pub mod NodeNames
 pub mod NodePhandleSteps
 pub mod PlaceSteps
 pub mod Ready
+pub mod ResolveLemmas
 pub mod Shallow
 pub mod SiteNames
 pub mod SiteSizes

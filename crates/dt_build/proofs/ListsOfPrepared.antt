@@ -9,32 +9,32 @@ use Rattle.dt_tree.specs.Steps.{then_do}
 use Rattle.dt_tree.specs.NodeData.{NodeData}
 use Rattle.dt_tree.specs.PathMap.{path_map}
 use Rattle.dt_tree.specs.Sound.{are_distinct, IsSound}
-use Rattle.dt_meaning.specs.Names.{symbols_name, fixups_name, local_fixups_name}
-use Rattle.dt_meaning.specs.Paths.{Path, same_path, is_listed}
-use Rattle.dt_meaning.specs.Syntax.{Meaning}
-use Rattle.dt_meaning.specs.Edits.{Definition, Label}
-use Rattle.dt_meaning.specs.Statements.{TooDeep}
-use Rattle.dt_meaning.specs.References.{Found, held, preorder}
-use Rattle.dt_meaning.specs.Fixups.{sites, fixups, local_fixups}
-use Rattle.dt_meaning.specs.Resolved.{Resolved, is_too_deep, names_taken, phandle_property, put_together, resolved, resolved_state, shallow, symbol, when, with_bytes, with_more}
-use Rattle.dt_meaning.specs.MapOf.{map_of}
+use Rattle.dt_source.specs.TreeMeaning.Names.{symbols_name, fixups_name, local_fixups_name}
+use Rattle.dt_source.specs.TreeMeaning.Paths.{Path, same_path, is_listed}
+use Rattle.dt_source.specs.TreeMeaning.Syntax.{Meaning}
+use Rattle.dt_source.specs.TreeMeaning.Edits.{Definition, Label}
+use Rattle.dt_source.specs.TreeMeaning.Statements.{TooDeep}
+use Rattle.dt_source.specs.TreeMeaning.References.{Found, held, preorder}
+use Rattle.dt_source.specs.TreeMeaning.Fixups.{sites, fixups, local_fixups}
+use Rattle.dt_source.specs.TreeMeaning.Resolved.{Resolved, is_too_deep, names_taken, phandle_property, put_together, resolved, resolved_state, shallow, symbol, when, with_bytes, with_more}
+use Rattle.dt_source.specs.TreeMeaning.MapOf.{map_of}
 use Rattle.dt_live.specs.declared.live_tree.NodeRow.{NodeRow}
 use Rattle.dt_live.specs.Rows.{path_of, stands, standing}
 use Rattle.dt_live.proofs.PathsDown.{node-listed}
 use Rattle.dt_live.proofs.Each.{Each, each-all, each-append, each-more, each-same}
-use Rattle.dt_edit.specs.Said.{tree_of}
-use Rattle.dt_resolve.specs.declared.node_phandles.NodePhandle.{NodePhandle}
-use Rattle.dt_resolve.specs.declared.prepared.Prepared.{Prepared}
+use Rattle.dt_build.specs.Edit.Said.{tree_of}
+use Rattle.dt_build.specs.declared.resolve.node_phandles.NodePhandle.{NodePhandle}
+use Rattle.dt_build.specs.declared.resolve.prepared.Prepared.{Prepared}
 use Rattle.dt_build.specs.declared.draft.Draft.{Draft}
 use Rattle.dt_build.specs.Private.Drafts.{drafted}
-use Rattle.dt_resolve.specs.NodePhandles.{AreStanding, path_phandle_of}
-use Rattle.dt_resolve.specs.Prepared.{IsPrepared}
-use Rattle.dt_tree_builder.specs.Standing.{AreNodes, behind_root, walked}
-use Rattle.dt_tree_builder.specs.Sizes.{size_in, size_below}
-use Rattle.dt_tree_builder.proofs.Orders.{map-walked}
-use Rattle.dt_tree_builder.proofs.PathFacts.{same-is, listed-first, listed-next}
-use Rattle.dt_tree_builder.proofs.Standing.{listed-both}
-use Rattle.dt_tree_builder.proofs.SizesOfMaps.{once-by_names, sizes-of-lists}
+use Rattle.dt_build.specs.Resolve.NodePhandles.{AreStanding, path_phandle_of}
+use Rattle.dt_build.specs.Resolve.Prepared.{IsPrepared}
+use Rattle.dt_live.specs.Builder.Standing.{AreNodes, behind_root, walked}
+use Rattle.dt_live.specs.Builder.Sizes.{size_in, size_below}
+use Rattle.dt_live.proofs.BuilderLemmas.Orders.{map-walked}
+use Rattle.dt_live.proofs.BuilderLemmas.PathFacts.{same-is, listed-first, listed-next}
+use Rattle.dt_live.proofs.BuilderLemmas.Standing.{listed-both}
+use Rattle.dt_live.proofs.BuilderLemmas.SizesOfMaps.{once-by_names, sizes-of-lists}
 use Rattle.dt_build.specs.Private.Made.{added_phandles, all_phandles, bare_node, fixed, fixup_lists, founds, given_phandles, lists, made_sites, made_properties, new_phandles, own, plain_lists, plain_properties, symbol_lists, with_nodes}
 use Rattle.dt_build.specs.Private.Ready.{IsReady}
 use Rattle.dt_build.proofs.FixupLists.{fixups-at, fixups-distinct, fixups-under}

@@ -5,15 +5,15 @@ use Rattle.std.specs.Int.{to_be_bytes, w32}
 use Rattle.std.specs.Str.{bytes_eq}
 use Rattle.std.proofs.lemmas.Bool.{and_parts, or_left, or_right}
 use Rattle.std.proofs.lemmas.Bool.Decides.{nat_tests}
-use Rattle.dt_meaning.specs.Names.{symbols_name, fixups_name, local_fixups_name}
-use Rattle.dt_meaning.specs.Paths.{Path, same_path, is_within, is_listed}
-use Rattle.dt_meaning.specs.Edits.{Definition, definition, Label, is_of}
-use Rattle.dt_meaning.specs.Phandles.{new_ones}
-use Rattle.dt_meaning.specs.Fixups.{Site, appended, fixups, local_fixup, local_fixups}
-use Rattle.dt_meaning.specs.Resolved.{Resolved, fronts, is_too_deep, symbol, when, with_more}
+use Rattle.dt_source.specs.TreeMeaning.Names.{symbols_name, fixups_name, local_fixups_name}
+use Rattle.dt_source.specs.TreeMeaning.Paths.{Path, same_path, is_within, is_listed}
+use Rattle.dt_source.specs.TreeMeaning.Edits.{Definition, definition, Label, is_of}
+use Rattle.dt_source.specs.TreeMeaning.Phandles.{new_ones}
+use Rattle.dt_source.specs.TreeMeaning.Fixups.{Site, appended, fixups, local_fixup, local_fixups}
+use Rattle.dt_source.specs.TreeMeaning.Resolved.{Resolved, fronts, is_too_deep, symbol, when, with_more}
 use Rattle.dt_live.proofs.Each.{Each}
-use Rattle.dt_edit.specs.Said.{tree_of}
-use Rattle.dt_tree_builder.proofs.PathFacts.{listed-first, listed-next, same-is}
+use Rattle.dt_build.specs.Edit.Said.{tree_of}
+use Rattle.dt_live.proofs.BuilderLemmas.PathFacts.{listed-first, listed-next, same-is}
 use Rattle.dt_build.specs.declared.draft.Draft.{Draft}
 use Rattle.dt_build.specs.Private.Made.{bare_node, fixup_lists, lists, made_sites, plain_lists, symbol_lists}
 use Rattle.dt_build.specs.Private.Ready.{IsReady}

@@ -4,14 +4,14 @@ use Rattle.std.specs.Int.{to_be_bytes, w32}
 use Rattle.std.specs.List.{flat_map}
 use Rattle.std.specs.Str.{bytes_eq}
 use Rattle.std.proofs.lemmas.Bool.{and_parts, or_left, or_right}
-use Rattle.dt_meaning.specs.Names.{local_fixups_name}
-use Rattle.dt_meaning.specs.Paths.{Path, same_path, is_listed}
-use Rattle.dt_meaning.specs.Edits.{Definition, definition, is_of}
-use Rattle.dt_meaning.specs.Phandles.{new_ones}
-use Rattle.dt_meaning.specs.Fixups.{Site, appended, local_fixup, local_fixups}
-use Rattle.dt_meaning.specs.Resolved.{fronts}
-use Rattle.dt_tree_builder.proofs.PathFacts.{listed-first, listed-next, same-is}
-use Rattle.dt_tree_builder.proofs.Standing.{listed-both}
+use Rattle.dt_source.specs.TreeMeaning.Names.{local_fixups_name}
+use Rattle.dt_source.specs.TreeMeaning.Paths.{Path, same_path, is_listed}
+use Rattle.dt_source.specs.TreeMeaning.Edits.{Definition, definition, is_of}
+use Rattle.dt_source.specs.TreeMeaning.Phandles.{new_ones}
+use Rattle.dt_source.specs.TreeMeaning.Fixups.{Site, appended, local_fixup, local_fixups}
+use Rattle.dt_source.specs.TreeMeaning.Resolved.{fronts}
+use Rattle.dt_live.proofs.BuilderLemmas.PathFacts.{listed-first, listed-next, same-is}
+use Rattle.dt_live.proofs.BuilderLemmas.Standing.{listed-both}
 use Rattle.dt_build.proofs.MoreLists.{fronts_of}
 
 -- ---- what was seen before

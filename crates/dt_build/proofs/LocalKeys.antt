@@ -3,17 +3,17 @@ use Rattle.std.proofs.Common.{◌≡◌, ℕ, Bool, true, false, not, ◌||◌, 
 use Rattle.std.specs.Str.{bytes_eq}
 use Rattle.std.proofs.lemmas.Bool.{and_parts}
 use Rattle.dt_tree.specs.Sound.{is_among, are_distinct}
-use Rattle.dt_meaning.specs.Paths.{Path, same_path}
-use Rattle.dt_meaning.specs.Edits.{Definition, is_of}
-use Rattle.dt_meaning.specs.References.{held}
-use Rattle.dt_meaning.specs.Resolved.{phandle_property, with_bytes}
+use Rattle.dt_source.specs.TreeMeaning.Paths.{Path, same_path}
+use Rattle.dt_source.specs.TreeMeaning.Edits.{Definition, is_of}
+use Rattle.dt_source.specs.TreeMeaning.References.{held}
+use Rattle.dt_source.specs.TreeMeaning.Resolved.{phandle_property, with_bytes}
 use Rattle.dt_live.proofs.Each.{Each}
 use Rattle.dt_live.specs.Rows.{node_path}
 use Rattle.dt_live.specs.declared.preorder.properties.NodeProperty.{NodeProperty}
-use Rattle.dt_edit.specs.Said.{Parts}
-use Rattle.dt_resolve.specs.Founds.{all_uses, found_properties}
+use Rattle.dt_build.specs.Edit.Said.{Parts}
+use Rattle.dt_build.specs.Resolve.Founds.{all_uses, found_properties}
 use Rattle.dt_build.specs.declared.draft.Draft.{Draft}
-use Rattle.dt_tree_builder.proofs.PathFacts.{not-both, not-true, same-is, same-itself}
+use Rattle.dt_live.proofs.BuilderLemmas.PathFacts.{not-both, not-true, same-is, same-itself}
 use Rattle.dt_build.specs.Private.FixupSites.{key_of, keys}
 use Rattle.dt_build.specs.Private.Made.{all_phandles, founds, made_properties, added_phandles}
 use Rattle.dt_build.specs.Private.Ready.{IsReady}

@@ -4,12 +4,12 @@ use Rattle.std.specs.Int.{to_be_bytes, w32}
 use Rattle.std.specs.Str.{bytes_eq}
 use Rattle.std.proofs.lemmas.Bool.{and_from}
 use Rattle.dt_tree.specs.Sound.{are_distinct}
-use Rattle.dt_meaning.specs.Names.{local_fixups_name}
-use Rattle.dt_meaning.specs.Paths.{Path}
-use Rattle.dt_meaning.specs.Edits.{Definition, definition}
-use Rattle.dt_meaning.specs.References.{held}
-use Rattle.dt_meaning.specs.Fixups.{Site, local_fixup, local_fixups}
-use Rattle.dt_tree_builder.proofs.PathFacts.{bytes-itself}
+use Rattle.dt_source.specs.TreeMeaning.Names.{local_fixups_name}
+use Rattle.dt_source.specs.TreeMeaning.Paths.{Path}
+use Rattle.dt_source.specs.TreeMeaning.Edits.{Definition, definition}
+use Rattle.dt_source.specs.TreeMeaning.References.{held}
+use Rattle.dt_source.specs.TreeMeaning.Fixups.{Site, local_fixup, local_fixups}
+use Rattle.dt_live.proofs.BuilderLemmas.PathFacts.{bytes-itself}
 use Rattle.dt_live.proofs.Each.{Each}
 use Rattle.dt_build.proofs.ApartLists.{InPairs, each-any}
 use Rattle.dt_build.proofs.ApartKeys.{distinct-held}

@@ -6,17 +6,17 @@ use Rattle.std.proofs.lemmas.Bool.{eqb-true}
 use Rattle.std.proofs.lemmas.List.{get_or_default, length-set}
 use Rattle.dt_tree.specs.declared.property.Property.{Property}
 use Rattle.dt_tree.specs.NodeData.{NodeData}
-use Rattle.dt_meaning.specs.Paths.{Path, is_listed}
-use Rattle.dt_meaning.specs.References.{held}
-use Rattle.dt_meaning.specs.Resolved.{fronts, is_too_deep, names_taken}
+use Rattle.dt_source.specs.TreeMeaning.Paths.{Path, is_listed}
+use Rattle.dt_source.specs.TreeMeaning.References.{held}
+use Rattle.dt_source.specs.TreeMeaning.Resolved.{fronts, is_too_deep, names_taken}
 use Rattle.dt_live.specs.declared.live_tree.NodeRow.{NodeRow}
 use Rattle.dt_live.specs.Rows.{climb, is_standing, node_path, path_of, row_at}
-use Rattle.dt_tree_builder.specs.Lists.{defined_at, with_last}
-use Rattle.dt_tree_builder.specs.Builders.{built_lists, last_path}
-use Rattle.dt_tree_builder.proofs.Pushes.{IsNext}
-use Rattle.dt_tree_builder.proofs.MakingWalk.{some-node}
+use Rattle.dt_live.specs.Builder.Lists.{defined_at, with_last}
+use Rattle.dt_live.specs.Builder.Builders.{built_lists, last_path}
+use Rattle.dt_live.proofs.BuilderLemmas.Pushes.{IsNext}
+use Rattle.dt_live.proofs.BuilderLemmas.MakingWalk.{some-node}
 use Rattle.dt_live.proofs.BlankRows.{blank_row}
-use Rattle.dt_edit.specs.Said.{tree_of}
+use Rattle.dt_build.specs.Edit.Said.{tree_of}
 use Rattle.dt_build.specs.declared.draft.Draft.{Draft}
 use Rattle.dt_build.specs.declared.local_properties.LocalFixup.{LocalFixup}
 use Rattle.dt_build.specs.Private.Made.{lists}

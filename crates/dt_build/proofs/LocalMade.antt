@@ -2,17 +2,17 @@
 use Rattle.std.proofs.Common.{◌≡◌, ℕ, Bool, true, false, List, [], ◌∷◌, ◌++◌, map, refl, sym, ap, ◌∙◌, subst, append-nil}
 use Rattle.std.specs.List.{filter, flat_map, list_any}
 use Rattle.std.proofs.lemmas.Bool.{or_left}
-use Rattle.dt_meaning.specs.Names.{local_fixups_name}
-use Rattle.dt_meaning.specs.Paths.{Path, is_listed}
-use Rattle.dt_meaning.specs.Edits.{Definition}
-use Rattle.dt_meaning.specs.References.{held, preorder}
-use Rattle.dt_meaning.specs.Phandles.{new_ones}
-use Rattle.dt_meaning.specs.Fixups.{local_fixups, sites}
-use Rattle.dt_meaning.specs.Resolved.{Resolved, fronts, is_too_deep, names_taken, when, with_more}
+use Rattle.dt_source.specs.TreeMeaning.Names.{local_fixups_name}
+use Rattle.dt_source.specs.TreeMeaning.Paths.{Path, is_listed}
+use Rattle.dt_source.specs.TreeMeaning.Edits.{Definition}
+use Rattle.dt_source.specs.TreeMeaning.References.{held, preorder}
+use Rattle.dt_source.specs.TreeMeaning.Phandles.{new_ones}
+use Rattle.dt_source.specs.TreeMeaning.Fixups.{local_fixups, sites}
+use Rattle.dt_source.specs.TreeMeaning.Resolved.{Resolved, fronts, is_too_deep, names_taken, when, with_more}
 use Rattle.dt_live.proofs.Each.{Each}
-use Rattle.dt_tree_builder.specs.Standing.{walked}
-use Rattle.dt_tree_builder.proofs.Standing.{listed-both}
-use Rattle.dt_edit.specs.Said.{tree_of}
+use Rattle.dt_live.specs.Builder.Standing.{walked}
+use Rattle.dt_live.proofs.BuilderLemmas.Standing.{listed-both}
+use Rattle.dt_build.specs.Edit.Said.{tree_of}
 use Rattle.dt_build.specs.declared.draft.Draft.{Draft}
 use Rattle.dt_build.specs.Private.LocalFixups.{all_local, has_local, local_path, with_locals}
 use Rattle.dt_build.specs.Private.Made.{all_phandles, fixed, fixup_lists, lists, made_sites}

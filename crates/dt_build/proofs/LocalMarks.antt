@@ -3,23 +3,23 @@ use Rattle.std.proofs.Common.{◌≡◌, ◌≢◌, ℕ, suc, ◌+◌, ◌-◌, 
 use Rattle.std.proofs.lemmas.Bool.{and_parts, eqb-true, eq-eqb}
 use Rattle.std.proofs.lemmas.List.{get_or-set_same, get_or-set_other, get_or_default}
 use Rattle.dt_tree.specs.declared.property.Property.{Property}
-use Rattle.dt_meaning.specs.Names.{local_fixups_name}
-use Rattle.dt_meaning.specs.Paths.{Path, same_path, is_within, is_listed}
-use Rattle.dt_meaning.specs.Edits.{Definition, definition}
-use Rattle.dt_meaning.specs.References.{held}
-use Rattle.dt_meaning.specs.Resolved.{fronts}
+use Rattle.dt_source.specs.TreeMeaning.Names.{local_fixups_name}
+use Rattle.dt_source.specs.TreeMeaning.Paths.{Path, same_path, is_within, is_listed}
+use Rattle.dt_source.specs.TreeMeaning.Edits.{Definition, definition}
+use Rattle.dt_source.specs.TreeMeaning.References.{held}
+use Rattle.dt_source.specs.TreeMeaning.Resolved.{fronts}
 use Rattle.dt_live.specs.declared.live_tree.NodeRow.{NodeRow}
 use Rattle.dt_live.specs.declared.preorder.properties.NodeProperty.{NodeProperty}
-use Rattle.dt_edit.specs.Said.{Parts}
+use Rattle.dt_build.specs.Edit.Said.{Parts}
 use Rattle.dt_live.specs.Index.{row_of}
 use Rattle.dt_live.specs.Rows.{IsNode, no_row, path_of, row_at, stands}
 use Rattle.dt_live.proofs.Climbs.{path-step, stands-step}
 use Rattle.dt_live.proofs.PathTests.{within-snoc}
 use Rattle.dt_live.proofs.StandingRows.{same-node}
 use Rattle.dt_build.specs.declared.draft.Draft.{Draft}
-use Rattle.dt_tree_builder.specs.Lists.{defined_at}
-use Rattle.dt_tree_builder.proofs.PathFacts.{bytes-itself}
-use Rattle.dt_tree_builder.proofs.MakingWalk.{one-more}
+use Rattle.dt_live.specs.Builder.Lists.{defined_at}
+use Rattle.dt_live.proofs.BuilderLemmas.PathFacts.{bytes-itself}
+use Rattle.dt_live.proofs.BuilderLemmas.MakingWalk.{one-more}
 use Rattle.dt_build.specs.declared.local_properties.LocalFixup.{LocalFixup}
 use Rattle.dt_build.specs.Private.FixupSites.{key_at}
 use Rattle.dt_build.specs.Private.LocalFixups.{IsAtNode, local_definitions, local_path}

@@ -3,11 +3,11 @@ use Rattle.std.proofs.Common.{◌≡◌, ℕ, Bool, true, false, not, ◌&&◌, 
 use Rattle.std.specs.List.{filter, flat_map}
 use Rattle.std.proofs.lemmas.Bool.{and_parts, or_from}
 use Rattle.std.specs.Str.{bytes_eq}
-use Rattle.dt_meaning.specs.Paths.{Path, same_path, is_listed}
-use Rattle.dt_meaning.specs.Phandles.{new_ones}
+use Rattle.dt_source.specs.TreeMeaning.Paths.{Path, same_path, is_listed}
+use Rattle.dt_source.specs.TreeMeaning.Phandles.{new_ones}
 use Rattle.dt_live.proofs.Each.{Each}
-use Rattle.dt_tree_builder.specs.Standing.{are_apart}
-use Rattle.dt_tree_builder.proofs.PathFacts.{listed-first, listed-next, not-both, not-true, same-is}
+use Rattle.dt_live.specs.Builder.Standing.{are_apart}
+use Rattle.dt_live.proofs.BuilderLemmas.PathFacts.{listed-first, listed-next, not-both, not-true, same-is}
 
 -- ---- what was seen
 pub ones-same : (seen other xs : List Path) → ((q : Path) → is_listed q xs ≡ true → is_listed q seen ≡ is_listed q other) → new_ones seen xs ≡ new_ones other xs

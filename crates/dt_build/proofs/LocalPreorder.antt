@@ -1,15 +1,15 @@
 -- The walk over the nodes of local fixups of a plugin that is ready, and which nodes have some.
 use Rattle.std.proofs.Common.{◌≡◌, ℕ, zero, suc, ◌+◌, Bool, true, false, List, [], ◌∷◌, length, map, is_some, cond, refl, sym, ap, ◌∙◌, length-append, arith}
 use Rattle.std.specs.List.{filter, list_any}
-use Rattle.dt_meaning.specs.Names.{local_fixups_name}
-use Rattle.dt_meaning.specs.Paths.{Path, is_listed, name_below}
-use Rattle.dt_meaning.specs.References.{walk, preorder}
-use Rattle.dt_meaning.specs.Phandles.{new_ones}
-use Rattle.dt_meaning.specs.Fixups.{Site, local_fixups}
-use Rattle.dt_meaning.specs.Resolved.{is_too_deep}
-use Rattle.dt_tree_builder.proofs.PathFacts.{child-is, not-deep, or-false}
-use Rattle.dt_tree_builder.proofs.Walks.{flat-none}
-use Rattle.dt_edit.specs.Said.{tree_of}
+use Rattle.dt_source.specs.TreeMeaning.Names.{local_fixups_name}
+use Rattle.dt_source.specs.TreeMeaning.Paths.{Path, is_listed, name_below}
+use Rattle.dt_source.specs.TreeMeaning.References.{walk, preorder}
+use Rattle.dt_source.specs.TreeMeaning.Phandles.{new_ones}
+use Rattle.dt_source.specs.TreeMeaning.Fixups.{Site, local_fixups}
+use Rattle.dt_source.specs.TreeMeaning.Resolved.{is_too_deep}
+use Rattle.dt_live.proofs.BuilderLemmas.PathFacts.{child-is, not-deep, or-false}
+use Rattle.dt_live.proofs.BuilderLemmas.Walks.{flat-none}
+use Rattle.dt_build.specs.Edit.Said.{tree_of}
 use Rattle.dt_build.specs.declared.draft.Draft.{Draft}
 use Rattle.dt_build.specs.Private.Made.{fixup_lists, lists, made_sites}
 use Rattle.dt_build.specs.Private.Ready.{IsReady}

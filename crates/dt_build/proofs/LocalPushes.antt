@@ -7,22 +7,22 @@ use Rattle.std.proofs.lemmas.List.Concat.{flat_map-append}
 use Rattle.dt_tree.specs.declared.property.Property.{Property}
 use Rattle.dt_tree.specs.NodeData.{NodeData, property_names}
 use Rattle.dt_tree.specs.Sound.{are_distinct}
-use Rattle.dt_meaning.specs.Names.{local_fixups_name}
-use Rattle.dt_meaning.specs.Paths.{Path, same_path, is_listed, is_within}
-use Rattle.dt_meaning.specs.Edits.{Definition}
-use Rattle.dt_meaning.specs.References.{held, preorder}
-use Rattle.dt_meaning.specs.Resolved.{fronts, is_too_deep, names_taken, with_more}
-use Rattle.dt_tree_builder.specs.Lists.{defined_at, with_last}
-use Rattle.dt_tree_builder.specs.Builders.{built_lists}
-use Rattle.dt_tree_builder.specs.Standing.{AreNodes, behind_root, walked}
-use Rattle.dt_tree_builder.proofs.InTurn.{each-once, before-apart}
-use Rattle.dt_tree_builder.proofs.Orders.{behind, there-same}
-use Rattle.dt_tree_builder.proofs.PathFacts.{bytes-itself, not-both, same-itself}
-use Rattle.dt_tree_builder.proofs.Pushes.{IsNext, next-fits}
-use Rattle.dt_tree_builder.proofs.Standing.{listed-both}
+use Rattle.dt_source.specs.TreeMeaning.Names.{local_fixups_name}
+use Rattle.dt_source.specs.TreeMeaning.Paths.{Path, same_path, is_listed, is_within}
+use Rattle.dt_source.specs.TreeMeaning.Edits.{Definition}
+use Rattle.dt_source.specs.TreeMeaning.References.{held, preorder}
+use Rattle.dt_source.specs.TreeMeaning.Resolved.{fronts, is_too_deep, names_taken, with_more}
+use Rattle.dt_live.specs.Builder.Lists.{defined_at, with_last}
+use Rattle.dt_live.specs.Builder.Builders.{built_lists}
+use Rattle.dt_live.specs.Builder.Standing.{AreNodes, behind_root, walked}
+use Rattle.dt_live.proofs.BuilderLemmas.InTurn.{each-once, before-apart}
+use Rattle.dt_live.proofs.BuilderLemmas.Orders.{behind, there-same}
+use Rattle.dt_live.proofs.BuilderLemmas.PathFacts.{bytes-itself, not-both, same-itself}
+use Rattle.dt_live.proofs.BuilderLemmas.Pushes.{IsNext, next-fits}
+use Rattle.dt_live.proofs.BuilderLemmas.Standing.{listed-both}
 use Rattle.dt_live.specs.Rows.{node_path}
-use Rattle.dt_tree_builder.proofs.MakingWalk.{names-defined}
-use Rattle.dt_edit.specs.Said.{tree_of}
+use Rattle.dt_live.proofs.BuilderLemmas.MakingWalk.{names-defined}
+use Rattle.dt_build.specs.Edit.Said.{tree_of}
 use Rattle.dt_build.specs.declared.draft.Draft.{Draft}
 use Rattle.dt_build.specs.declared.local_properties.LocalFixup.{LocalFixup}
 use Rattle.dt_build.specs.Private.Made.{fixup_lists, lists, made_sites}

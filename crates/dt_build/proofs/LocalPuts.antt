@@ -5,13 +5,13 @@ use Rattle.std.specs.Str.{bytes_eq}
 use Rattle.std.proofs.lemmas.Bool.{and_from, eqb-true, eq-eqb}
 use Rattle.std.proofs.lemmas.List.{get_or-map, length-map}
 use denote.Ref.{Bor}
-use Rattle.dt_meaning.specs.Names.{local_fixups_name}
-use Rattle.dt_meaning.specs.Paths.{same_path}
-use Rattle.dt_meaning.specs.Edits.{Definition, definition, is_of}
-use Rattle.dt_meaning.specs.Fixups.{Site, appended, local_fixup}
+use Rattle.dt_source.specs.TreeMeaning.Names.{local_fixups_name}
+use Rattle.dt_source.specs.TreeMeaning.Paths.{same_path}
+use Rattle.dt_source.specs.TreeMeaning.Edits.{Definition, definition, is_of}
+use Rattle.dt_source.specs.TreeMeaning.Fixups.{Site, appended, local_fixup}
 use Rattle.dt_live.proofs.Each.{Each, each-all, each-append, each-of}
 use Rattle.dt_build.specs.declared.draft.Draft.{Draft}
-use Rattle.dt_tree_builder.proofs.PathFacts.{bytes-itself, same-itself}
+use Rattle.dt_live.proofs.BuilderLemmas.PathFacts.{bytes-itself, same-itself}
 use Rattle.dt_build.specs.declared.local_properties.LocalFixup.{LocalFixup}
 use Rattle.dt_source.specs.declared.tree.Reference.{Reference}
 use Rattle.dt_build.specs.Private.FixupSites.{key_at, keys, open_label}

@@ -1,12 +1,12 @@
 -- Steps below one node, gathered on a walk: each child's come together, and children come in their order.
 use Rattle.std.proofs.Common.{◌≡◌, ◌≤◌, ℕ, zero, suc, Bool, true, false, List, [], ◌∷◌, ◌++◌, length, is_some, if◌then◌else◌, refl, sym, ap, ap₂, ◌∙◌, append_assoc, append-nil, length-append, arith}
 use Rattle.std.specs.List.{filter, flat_map, list_any}
-use Rattle.dt_meaning.specs.Paths.{Path, same_path, is_listed, name_below}
-use Rattle.dt_meaning.specs.References.{walk, preorder}
+use Rattle.dt_source.specs.TreeMeaning.Paths.{Path, same_path, is_listed, name_below}
+use Rattle.dt_source.specs.TreeMeaning.References.{walk, preorder}
 use Rattle.dt_live.proofs.Each.{Each, each-flat, each-more}
-use Rattle.dt_tree_builder.specs.Standing.{AreNodes}
-use Rattle.dt_tree_builder.proofs.PathFacts.{Within, within-step, below-child, child-is, next-names, not-both, not-deep, same-itself}
-use Rattle.dt_tree_builder.proofs.Walks.{above-all, child-listed, chosen, flat-none, flat-one, vanish, walk-step}
+use Rattle.dt_live.specs.Builder.Standing.{AreNodes}
+use Rattle.dt_live.proofs.BuilderLemmas.PathFacts.{Within, within-step, below-child, child-is, next-names, not-both, not-deep, same-itself}
+use Rattle.dt_live.proofs.BuilderLemmas.Walks.{above-all, child-listed, chosen, flat-none, flat-one, vanish, walk-step}
 use Rattle.dt_build.proofs.ApartLists.{each-passed}
 use Rattle.dt_build.proofs.LocalDepth.{one-listed, some-listed}
 use Rattle.dt_build.proofs.WalkOrder.{in-walk}

@@ -2,9 +2,9 @@
 use Rattle.std.proofs.Common.{◌≡◌, ℕ, zero, suc, Bool, true, false, List, [], ◌∷◌, ◌++◌, map, is_some, cond, refl, sym, ap, ap₂, ◌∙◌}
 use Rattle.std.specs.List.{filter, flat_map}
 use Rattle.std.proofs.lemmas.List.{map-append}
-use Rattle.dt_meaning.specs.Paths.{Path, is_listed, name_below}
-use Rattle.dt_meaning.specs.References.{walk}
-use Rattle.dt_tree_builder.proofs.PathFacts.{child-is, not-both}
+use Rattle.dt_source.specs.TreeMeaning.Paths.{Path, is_listed, name_below}
+use Rattle.dt_source.specs.TreeMeaning.References.{walk}
+use Rattle.dt_live.proofs.BuilderLemmas.PathFacts.{child-is, not-both}
 use Rattle.dt_build.proofs.SymbolsLast.{kept-both}
 
 module _ (n : List ℕ) (nodes news : List Path) where

@@ -3,18 +3,18 @@ use Rattle.std.proofs.Common.{◌≡◌, ℕ, Bool, true, false, ◌&&◌, ◌||
 use Rattle.std.specs.List.{filter, flat_map}
 use Rattle.std.specs.Str.{bytes_eq}
 use Rattle.std.proofs.lemmas.Bool.{and_from}
-use Rattle.dt_meaning.specs.Names.{local_fixups_name}
-use Rattle.dt_meaning.specs.Paths.{Path, same_path, is_within, is_listed, name_below}
-use Rattle.dt_meaning.specs.Edits.{Definition}
-use Rattle.dt_meaning.specs.References.{Found, held, preorder, walk}
-use Rattle.dt_meaning.specs.Phandles.{PathPhandle, new_ones}
-use Rattle.dt_meaning.specs.Fixups.{sites, sites_in, local_fixups}
-use Rattle.dt_meaning.specs.Resolved.{fronts, when}
+use Rattle.dt_source.specs.TreeMeaning.Names.{local_fixups_name}
+use Rattle.dt_source.specs.TreeMeaning.Paths.{Path, same_path, is_within, is_listed, name_below}
+use Rattle.dt_source.specs.TreeMeaning.Edits.{Definition}
+use Rattle.dt_source.specs.TreeMeaning.References.{Found, held, preorder, walk}
+use Rattle.dt_source.specs.TreeMeaning.Phandles.{PathPhandle, new_ones}
+use Rattle.dt_source.specs.TreeMeaning.Fixups.{sites, sites_in, local_fixups}
+use Rattle.dt_source.specs.TreeMeaning.Resolved.{fronts, when}
 use Rattle.dt_live.proofs.Each.{Each, each-flat, each-more, each-same}
-use Rattle.dt_tree_builder.specs.Standing.{AreNodes}
-use Rattle.dt_tree_builder.proofs.PathFacts.{bytes-itself, child-is, listed-first, listed-next, not-both, same-is, within-is}
-use Rattle.dt_tree_builder.proofs.Walks.{flat-flat}
-use Rattle.dt_edit.specs.Said.{tree_of}
+use Rattle.dt_live.specs.Builder.Standing.{AreNodes}
+use Rattle.dt_live.proofs.BuilderLemmas.PathFacts.{bytes-itself, child-is, listed-first, listed-next, not-both, same-is, within-is}
+use Rattle.dt_live.proofs.BuilderLemmas.Walks.{flat-flat}
+use Rattle.dt_build.specs.Edit.Said.{tree_of}
 use Rattle.dt_build.specs.declared.draft.Draft.{Draft}
 use Rattle.dt_build.specs.Private.Made.{all_phandles, fixed, made_sites}
 use Rattle.dt_build.specs.Private.Ready.{IsReady}

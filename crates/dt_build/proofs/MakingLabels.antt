@@ -6,17 +6,17 @@ use Rattle.dt_tree.specs.Name.{is_name}
 use Rattle.dt_tree.specs.NodeData.{property_names}
 use Rattle.dt_tree.specs.Path.{path_text}
 use Rattle.dt_tree.specs.Sound.{are_distinct}
-use Rattle.dt_meaning.specs.Names.{symbols_name}
-use Rattle.dt_meaning.specs.Paths.{Path}
-use Rattle.dt_meaning.specs.Edits.{Definition, definition, Label, labelled_at}
-use Rattle.dt_meaning.specs.Resolved.{symbol}
+use Rattle.dt_source.specs.TreeMeaning.Names.{symbols_name}
+use Rattle.dt_source.specs.TreeMeaning.Paths.{Path}
+use Rattle.dt_source.specs.TreeMeaning.Edits.{Definition, definition, Label, labelled_at}
+use Rattle.dt_source.specs.TreeMeaning.Resolved.{symbol}
 use Rattle.dt_live.specs.declared.live_tree.LabelRow.{LabelRow}
 use Rattle.dt_live.specs.Rows.{label_at, worn}
 use Rattle.dt_live.proofs.Worn.{worn-append}
 use Rattle.dt_live.proofs.Each.{Each}
-use Rattle.dt_tree_builder.specs.Lists.{defined_at}
-use Rattle.dt_tree_builder.specs.Sizes.{size_in}
-use Rattle.dt_tree_builder.proofs.MakingWalk.{names-defined}
+use Rattle.dt_live.specs.Builder.Lists.{defined_at}
+use Rattle.dt_live.specs.Builder.Sizes.{size_in}
+use Rattle.dt_live.proofs.BuilderLemmas.MakingWalk.{names-defined}
 
 defined-append : (q : Path) (xs ys : List Property) → defined_at q (xs ++ ys) ≡ defined_at q xs ++ defined_at q ys
 defined-append q [] ys = refl

@@ -4,15 +4,15 @@ use Rattle.std.specs.Prelude.{slice_index_or}
 use Rattle.std.specs.List.{list_all}
 use Rattle.std.proofs.lemmas.Bool.{and_parts}
 use Rattle.dt_tree.specs.Name.{is_name}
-use Rattle.dt_meaning.specs.Paths.{Path, same_path, is_listed}
+use Rattle.dt_source.specs.TreeMeaning.Paths.{Path, same_path, is_listed}
 use Rattle.dt_live.specs.declared.live_tree.NodeRow.{NodeRow}
 use Rattle.dt_live.specs.Rows.{climb, row_at, path_of, stands}
 use Rattle.dt_live.proofs.StandingProperties.{listed-standing}
-use Rattle.dt_tree_builder.proofs.PathFacts.{same-is, not-both}
+use Rattle.dt_live.proofs.BuilderLemmas.PathFacts.{same-is, not-both}
 use Rattle.dt_live.proofs.BlankRows.{blank_row}
 use Rattle.dt_live.proofs.Each.{Each, each-of}
 use Rattle.dt_live.proofs.MakingNodes.{AreInOrder, at, before, row-is, row-known}
-use Rattle.dt_edit.specs.Said.{tree_of}
+use Rattle.dt_build.specs.Edit.Said.{tree_of}
 use Rattle.dt_build.specs.declared.draft.Draft.{Draft}
 use Rattle.dt_build.specs.Private.Made.{plain_lists}
 use Rattle.dt_build.specs.Private.Ready.{IsReady}

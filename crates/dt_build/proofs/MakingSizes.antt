@@ -2,14 +2,14 @@
 use Rattle.std.proofs.Common.{◌≡◌, ℕ, ◌+◌, ◌*◌, ◌-◌, ◌^◌, min, Bool, true, false, List, [], ◌∷◌, length, map, refl, ap, ◌∙◌, append-nil, arith}
 use Rattle.std.specs.Int.{to_be_bytes, w32}
 use Rattle.std.proofs.lemmas.List.{length-map}
-use Rattle.dt_meaning.specs.Fixups.{fixups, local_fixups}
-use Rattle.dt_meaning.specs.Phandles.{PathPhandle}
-use Rattle.dt_meaning.specs.Resolved.{phandle_property, symbol}
-use Rattle.dt_tree_builder.specs.Sizes.{size_in}
-use Rattle.dt_tree_builder.proofs.SizesOfMaps.{size-append}
-use Rattle.dt_edit.specs.Said.{tree_of}
+use Rattle.dt_source.specs.TreeMeaning.Fixups.{fixups, local_fixups}
+use Rattle.dt_source.specs.TreeMeaning.Phandles.{PathPhandle}
+use Rattle.dt_source.specs.TreeMeaning.Resolved.{phandle_property, symbol}
+use Rattle.dt_live.specs.Builder.Sizes.{size_in}
+use Rattle.dt_live.proofs.BuilderLemmas.SizesOfMaps.{size-append}
+use Rattle.dt_build.specs.Edit.Said.{tree_of}
 use Rattle.dt_build.specs.declared.draft.Draft.{Draft}
-use Rattle.dt_resolve.specs.NodePhandles.{path_phandle_of}
+use Rattle.dt_build.specs.Resolve.NodePhandles.{path_phandle_of}
 use Rattle.dt_build.specs.Private.FixupSites.{sites_size}
 use Rattle.dt_build.specs.Private.Made.{fixup_lists, lists, made_properties, made_sites, added_phandles, plain_properties, symbol_lists}
 use Rattle.dt_build.proofs.SiteSizes.{sizes-of-sites}

@@ -3,19 +3,19 @@ use Rattle.std.proofs.Common.{◌≡◌, ℕ, ◌==◌, Bool, true, false, not, 
 use Rattle.std.specs.List.{flat_map}
 use Rattle.dt_tree.specs.declared.property.Property.{Property}
 use Rattle.dt_tree.specs.NodeData.{NodeData}
-use Rattle.dt_meaning.specs.Names.{symbols_name}
-use Rattle.dt_meaning.specs.Paths.{is_listed}
-use Rattle.dt_meaning.specs.Edits.{Label}
-use Rattle.dt_meaning.specs.References.{preorder}
-use Rattle.dt_meaning.specs.Resolved.{names_taken, symbol}
-use Rattle.dt_tree_builder.specs.Lists.{defined_at, with_last}
-use Rattle.dt_tree_builder.specs.Builders.{built_lists}
-use Rattle.dt_tree_builder.specs.Standing.{behind_root, walked}
-use Rattle.dt_tree_builder.proofs.Orders.{there-same}
-use Rattle.dt_tree_builder.proofs.PathFacts.{or-false}
-use Rattle.dt_edit.specs.Said.{tree_of}
-use Rattle.dt_resolve.proofs.LeftRows.{not-false}
-use Rattle.dt_resolve.proofs.Without.{nothing-in}
+use Rattle.dt_source.specs.TreeMeaning.Names.{symbols_name}
+use Rattle.dt_source.specs.TreeMeaning.Paths.{is_listed}
+use Rattle.dt_source.specs.TreeMeaning.Edits.{Label}
+use Rattle.dt_source.specs.TreeMeaning.References.{preorder}
+use Rattle.dt_source.specs.TreeMeaning.Resolved.{names_taken, symbol}
+use Rattle.dt_live.specs.Builder.Lists.{defined_at, with_last}
+use Rattle.dt_live.specs.Builder.Builders.{built_lists}
+use Rattle.dt_live.specs.Builder.Standing.{behind_root, walked}
+use Rattle.dt_live.proofs.BuilderLemmas.Orders.{there-same}
+use Rattle.dt_live.proofs.BuilderLemmas.PathFacts.{or-false}
+use Rattle.dt_build.specs.Edit.Said.{tree_of}
+use Rattle.dt_build.proofs.ResolveLemmas.LeftRows.{not-false}
+use Rattle.dt_build.proofs.ResolveLemmas.Without.{nothing-in}
 use Rattle.dt_build.specs.declared.draft.Draft.{Draft}
 use Rattle.dt_build.specs.Private.Made.{bare_node, own, plain_lists, symbol_lists}
 use Rattle.dt_build.specs.Private.Ready.{IsReady}

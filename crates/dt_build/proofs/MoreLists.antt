@@ -6,16 +6,16 @@ use Rattle.std.specs.Str.{bytes_eq}
 use Rattle.std.proofs.lemmas.Bool.{and_parts, and_from, or_left, or_right, or_from}
 use Rattle.std.proofs.lemmas.Slice.Eq.{bytes_eq-Decides}
 use Rattle.dt_tree.specs.Sound.{are_distinct}
-use Rattle.dt_meaning.specs.Paths.{Path, same_path, is_within, is_listed}
-use Rattle.dt_meaning.specs.Edits.{Definition, definition}
-use Rattle.dt_meaning.specs.References.{held}
-use Rattle.dt_meaning.specs.Phandles.{new_ones}
-use Rattle.dt_meaning.specs.Resolved.{Resolved, fronts, is_too_deep, with_more}
+use Rattle.dt_source.specs.TreeMeaning.Paths.{Path, same_path, is_within, is_listed}
+use Rattle.dt_source.specs.TreeMeaning.Edits.{Definition, definition}
+use Rattle.dt_source.specs.TreeMeaning.References.{held}
+use Rattle.dt_source.specs.TreeMeaning.Phandles.{new_ones}
+use Rattle.dt_source.specs.TreeMeaning.Resolved.{Resolved, fronts, is_too_deep, with_more}
 use Rattle.dt_live.proofs.Each.{Each, each-all, each-append, each-flat, each-more, each-of}
-use Rattle.dt_tree_builder.specs.Standing.{are_apart, AreNodes}
-use Rattle.dt_tree_builder.proofs.Orders.{held-append}
-use Rattle.dt_tree_builder.proofs.PathFacts.{by_last, bytes-itself, listed-first, not-both, not-true, or-false, same-is}
-use Rattle.dt_tree_builder.proofs.Standing.{listed-both}
+use Rattle.dt_live.specs.Builder.Standing.{are_apart, AreNodes}
+use Rattle.dt_live.proofs.BuilderLemmas.Orders.{held-append}
+use Rattle.dt_live.proofs.BuilderLemmas.PathFacts.{by_last, bytes-itself, listed-first, not-both, not-true, or-false, same-is}
+use Rattle.dt_live.proofs.BuilderLemmas.Standing.{listed-both}
 use Rattle.dt_build.specs.Private.Made.{with_nodes}
 use Rattle.dt_build.proofs.ApartPhandles.{apart-of, ones-apart, ones-so}
 use Rattle.dt_build.proofs.HeldProperties.{held-other}

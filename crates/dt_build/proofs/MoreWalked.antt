@@ -5,16 +5,16 @@ use Rattle.std.specs.Str.{bytes_eq}
 use Rattle.std.proofs.lemmas.Bool.{and_parts, or_left}
 use Rattle.std.proofs.lemmas.List.Concat.{flat_map-append}
 use Rattle.std.proofs.lemmas.Slice.Eq.{bytes_eq-Decides}
-use Rattle.dt_meaning.specs.Paths.{Path, same_path, is_within, is_listed, name_below}
-use Rattle.dt_meaning.specs.Edits.{Definition}
-use Rattle.dt_meaning.specs.References.{walk, preorder, held}
-use Rattle.dt_meaning.specs.Phandles.{new_ones}
-use Rattle.dt_meaning.specs.Resolved.{Resolved, fronts, with_more}
+use Rattle.dt_source.specs.TreeMeaning.Paths.{Path, same_path, is_within, is_listed, name_below}
+use Rattle.dt_source.specs.TreeMeaning.Edits.{Definition}
+use Rattle.dt_source.specs.TreeMeaning.References.{walk, preorder, held}
+use Rattle.dt_source.specs.TreeMeaning.Phandles.{new_ones}
+use Rattle.dt_source.specs.TreeMeaning.Resolved.{Resolved, fronts, with_more}
 use Rattle.dt_live.proofs.Each.{Each, each-flat, each-more}
-use Rattle.dt_tree_builder.specs.Standing.{are_apart, behind_root, walked}
-use Rattle.dt_tree_builder.proofs.Orders.{behind}
-use Rattle.dt_tree_builder.proofs.PathFacts.{child-is, listed-first, listed-next, not-both, not-true, same-is, same-itself}
-use Rattle.dt_tree_builder.proofs.Standing.{listed-both}
+use Rattle.dt_live.specs.Builder.Standing.{are_apart, behind_root, walked}
+use Rattle.dt_live.proofs.BuilderLemmas.Orders.{behind}
+use Rattle.dt_live.proofs.BuilderLemmas.PathFacts.{child-is, listed-first, listed-next, not-both, not-true, same-is, same-itself}
+use Rattle.dt_live.proofs.BuilderLemmas.Standing.{listed-both}
 use Rattle.dt_build.proofs.ApartLists.{each-passed}
 use Rattle.dt_build.proofs.ApartPhandles.{apart-of, ones-apart}
 use Rattle.dt_build.proofs.MoreLists.{AllUnder, IsUnder, IsWhole, fronts_of, fronts-under, held-before, held-under, listed-fronts, listed-new, under-at, under-new}

@@ -9,11 +9,11 @@ use Rattle.std.proofs.lemmas.Slice.Eq.{bytes_eq-Decides}
 use Rattle.dt_tree.specs.Steps.{then_do}
 use Rattle.dt_tree.specs.Path.{path_names}
 use Rattle.dt_tree.specs.Sound.{is_among}
-use Rattle.dt_meaning.specs.Names.{fragment_name, overlay_name}
-use Rattle.dt_meaning.specs.Paths.{Path, same_path, is_within, is_listed}
-use Rattle.dt_meaning.specs.Syntax.{Target, OfLabel, OfPath, Piece, Entry, Defines, Undefines, Child, Removes, Body, Done, Then, Edit, Rooted, Extends, Deletes, Omits, Meaning}
-use Rattle.dt_meaning.specs.Edits.{Definition, definition, Label, labelled_at, State, empty, counted, has_node, with_node, without_node, is_of, put, with_property, without_property, label_path, with_label}
-use Rattle.dt_meaning.specs.Statements.{Fault, UnknownLabel, UnknownPath, DuplicateLabel, DuplicateInBody, ReservedName, TooDeep, give_label, give_labels, is_made, Progress, progress, begun, child_fault, unless, after_entry, after_body, found, target_name, target_value, with_fragment, after_fragment, makes_fragment, after_item, after_items, edited}
+use Rattle.dt_source.specs.TreeMeaning.Names.{fragment_name, overlay_name}
+use Rattle.dt_source.specs.TreeMeaning.Paths.{Path, same_path, is_within, is_listed}
+use Rattle.dt_source.specs.TreeMeaning.Syntax.{Target, OfLabel, OfPath, Piece, Entry, Defines, Undefines, Child, Removes, Body, Done, Then, Edit, Rooted, Extends, Deletes, Omits, Meaning}
+use Rattle.dt_source.specs.TreeMeaning.Edits.{Definition, definition, Label, labelled_at, State, empty, counted, has_node, with_node, without_node, is_of, put, with_property, without_property, label_path, with_label}
+use Rattle.dt_source.specs.TreeMeaning.Statements.{Fault, UnknownLabel, UnknownPath, DuplicateLabel, DuplicateInBody, ReservedName, TooDeep, give_label, give_labels, is_made, Progress, progress, begun, child_fault, unless, after_entry, after_body, found, target_name, target_value, with_fragment, after_fragment, makes_fragment, after_item, after_items, edited}
 use Rattle.dt_live.proofs.PathTests.{same-is}
 use Rattle.dt_live.proofs.Each.{Each, each-append, each-kept}
 pub use Rattle.dt_build.specs.Private.Named.{HasOtherKey, IsNamed, IsNamedPath, IsNamedPiece, IsNamedTarget, IsNamedValue, IsOtherWord}

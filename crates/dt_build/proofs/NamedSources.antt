@@ -6,11 +6,11 @@ use Rattle.std.proofs.lemmas.Bool.{and_from}
 use Rattle.std.proofs.lemmas.Bool.Decides.{nat_tests}
 use Rattle.dt_tree.specs.Name.{is_name}
 use Rattle.dt_source.specs.Lawful.{IsLawfulTarget, IsLawfulPiece, IsLawfulEntry, IsLawfulBody, IsLawfulEdit}
-use Rattle.dt_meaning.specs.Paths.{Path}
-use Rattle.dt_meaning.specs.Syntax.{Target, OfLabel, OfPath, Piece, Plain, PhandleOf, PathOf, Stored, Entry, Defines, Undefines, Child, Removes, Body, Done, Then, Edit, Rooted, Extends, Deletes, Omits, Meaning}
-use Rattle.dt_meaning.specs.Edits.{State, counted}
-use Rattle.dt_meaning.specs.Statements.{edited}
-use Rattle.dt_meaning.specs.Resolved.{is_too_deep}
+use Rattle.dt_source.specs.TreeMeaning.Paths.{Path}
+use Rattle.dt_source.specs.TreeMeaning.Syntax.{Target, OfLabel, OfPath, Piece, Plain, PhandleOf, PathOf, Stored, Entry, Defines, Undefines, Child, Removes, Body, Done, Then, Edit, Rooted, Extends, Deletes, Omits, Meaning}
+use Rattle.dt_source.specs.TreeMeaning.Edits.{State, counted}
+use Rattle.dt_source.specs.TreeMeaning.Statements.{edited}
+use Rattle.dt_source.specs.TreeMeaning.Resolved.{is_too_deep}
 use Rattle.dt_live.proofs.Each.{Each, each-more, each-of}
 pub use Rattle.dt_build.specs.Private.Named.{IsName}
 use Rattle.dt_build.proofs.ApartLists.{each-any}

@@ -6,24 +6,24 @@ use Rattle.std.specs.Str.{bytes_eq}
 use Rattle.std.proofs.lemmas.Bool.{and_parts}
 use Rattle.std.proofs.lemmas.List.{map-append}
 use Rattle.dt_tree.specs.Sound.{is_among, are_distinct}
-use Rattle.dt_meaning.specs.Paths.{Path, same_path, is_listed}
-use Rattle.dt_meaning.specs.Edits.{Definition, definition}
-use Rattle.dt_meaning.specs.References.{held}
-use Rattle.dt_meaning.specs.Phandles.{PathPhandle}
-use Rattle.dt_meaning.specs.Fixups.{phandle_of}
-use Rattle.dt_meaning.specs.Resolved.{phandle_property}
+use Rattle.dt_source.specs.TreeMeaning.Paths.{Path, same_path, is_listed}
+use Rattle.dt_source.specs.TreeMeaning.Edits.{Definition, definition}
+use Rattle.dt_source.specs.TreeMeaning.References.{held}
+use Rattle.dt_source.specs.TreeMeaning.Phandles.{PathPhandle}
+use Rattle.dt_source.specs.TreeMeaning.Fixups.{phandle_of}
+use Rattle.dt_source.specs.TreeMeaning.Resolved.{phandle_property}
 use Rattle.dt_live.specs.Index.{row_of}
 use Rattle.dt_live.specs.Rows.{IsNode, is_standing, node_path}
-use Rattle.dt_tree_builder.proofs.Orders.{held-append}
-use Rattle.dt_tree_builder.proofs.PathFacts.{not-both, or-false, not-true, same-is, bytes-itself}
+use Rattle.dt_live.proofs.BuilderLemmas.Orders.{held-append}
+use Rattle.dt_live.proofs.BuilderLemmas.PathFacts.{not-both, or-false, not-true, same-is, bytes-itself}
 use Rattle.dt_build.specs.declared.draft.Draft.{Draft}
-use Rattle.dt_resolve.proofs.PathPhandles.{given-same}
-use Rattle.dt_making.specs.Made.{phandle_at}
+use Rattle.dt_build.proofs.ResolveLemmas.PathPhandles.{given-same}
+use Rattle.dt_live.specs.Making.Made.{phandle_at}
 use Rattle.dt_build.specs.declared.node_phandles.NodePhandles.{NodePhandles}
 use Rattle.dt_build.specs.Private.Made.{added_phandles, own, plain_properties}
 use Rattle.dt_build.specs.Private.NodePhandles.{AreNodePhandles}
 use Rattle.dt_build.specs.Private.Ready.{IsReady}
-use Rattle.dt_resolve.proofs.PathPhandles.{each-assigned}
+use Rattle.dt_build.proofs.ResolveLemmas.PathPhandles.{each-assigned}
 
 -- ---- new phandles
 abbrev phandle_name : List ℕ

@@ -5,13 +5,13 @@ use Rattle.dt_source.specs.declared.tree.FilePart.{FilePart}
 use Rattle.dt_source.specs.declared.tree.Part.{Part}
 use Rattle.dt_source.specs.declared.tree.Part.TheVariants as parts
 use Rattle.dt_source.specs.declared.tree.Reference.{Reference}
-use Rattle.dt_meaning.specs.Paths.{Path}
-use Rattle.dt_meaning.specs.DtcResolved.{is_string_of, last_name}
-use Rattle.dt_meaning.specs.References.{Found, Bytes, Cell, Open, PathText}
+use Rattle.dt_source.specs.TreeMeaning.Paths.{Path}
+use Rattle.dt_source.specs.TreeMeaning.DtcResolved.{is_string_of, last_name}
+use Rattle.dt_source.specs.TreeMeaning.References.{Found, Bytes, Cell, Open, PathText}
 use Rattle.dt_live.specs.declared.live_tree.NodeRow.{NodeRow}
 use Rattle.dt_live.specs.Rows.{IsGrown, no_row, path_of, row_at}
 use Rattle.dt_live.proofs.Climbs.{path-step}
-use Rattle.dt_resolve.specs.Founds.{found_of, founds_of}
+use Rattle.dt_build.specs.Resolve.Founds.{found_of, founds_of}
 use Rattle.std.proofs.lemmas.List.{get_or_default}
 use Rattle.std.proofs.lemmas.Slice.Eq.{bytes_eq-Decides}
 

@@ -1,18 +1,18 @@
 -- The phandles of nodes by their rows, and their bytes.
 use Rattle.std.proofs.Common.{◌≡◌, ℕ, ◌==◌, Bool, true, false, List, [], ◌∷◌, ◌++◌, map, if◌then◌else◌, refl, sym, ap, ◌∙◌, append-nil}
 use Rattle.std.specs.Int.{to_be_bytes, w32}
-use Rattle.dt_meaning.specs.Paths.{Path, same_path, is_listed}
-use Rattle.dt_meaning.specs.Phandles.{PathPhandle}
-use Rattle.dt_meaning.specs.Fixups.{phandle_of}
+use Rattle.dt_source.specs.TreeMeaning.Paths.{Path, same_path, is_listed}
+use Rattle.dt_source.specs.TreeMeaning.Phandles.{PathPhandle}
+use Rattle.dt_source.specs.TreeMeaning.Fixups.{phandle_of}
 use Rattle.dt_live.specs.declared.live_tree.NodeRow.{NodeRow}
 use Rattle.dt_live.specs.Index.{row_of}
 use Rattle.dt_live.specs.Rows.{Found, IsLiveTree, is_standing, node_path, path_of, stands, IsGrown, IsNodeIndex}
 use Rattle.dt_live.proofs.StandingRows.{same-node}
-use Rattle.dt_tree_builder.proofs.PathFacts.{or-false}
-use Rattle.dt_resolve.specs.declared.node_phandles.NodePhandle.{NodePhandle}
+use Rattle.dt_live.proofs.BuilderLemmas.PathFacts.{or-false}
+use Rattle.dt_build.specs.declared.resolve.node_phandles.NodePhandle.{NodePhandle}
 use Rattle.dt_build.specs.declared.draft.Draft.{Draft}
-use Rattle.dt_resolve.specs.NodePhandles.{AreStanding, path_phandle_of}
-use Rattle.dt_resolve.proofs.PathPhandles.{EachStands, each-assigned}
+use Rattle.dt_build.specs.Resolve.NodePhandles.{AreStanding, path_phandle_of}
+use Rattle.dt_build.proofs.ResolveLemmas.PathPhandles.{EachStands, each-assigned}
 use Rattle.dt_build.specs.Private.Made.{new_phandles}
 use Rattle.dt_build.specs.Private.FirstPhandle.{IsOfPath, first_phandle}
 

@@ -8,33 +8,33 @@ use Rattle.dt_tree.specs.Name.{is_name}
 use Rattle.dt_source.specs.declared.tree.Source.{Source}
 use Rattle.dt_source.specs.Lawful.{IsLawful}
 use Rattle.dt_source.specs.Meaning.{meaning_of}
-use Rattle.dt_meaning.specs.Paths.{Path, is_listed}
+use Rattle.dt_source.specs.TreeMeaning.Paths.{Path, is_listed}
 use Rattle.dt_tree.specs.Sound.{are_distinct}
-use Rattle.dt_meaning.specs.Syntax.{Meaning, Piece}
-use Rattle.dt_meaning.specs.Fixups.{phandle_of}
-use Rattle.dt_meaning.specs.Resolved.{phandle_property, when}
-use Rattle.dt_meaning.specs.Edits.{Definition}
+use Rattle.dt_source.specs.TreeMeaning.Syntax.{Meaning, Piece}
+use Rattle.dt_source.specs.TreeMeaning.Fixups.{phandle_of}
+use Rattle.dt_source.specs.TreeMeaning.Resolved.{phandle_property, when}
+use Rattle.dt_source.specs.TreeMeaning.Edits.{Definition}
 use Rattle.dt_tree.specs.Steps.{each}
-use Rattle.dt_meaning.specs.References.{Found, found_value, held, in_order, preorder, references}
-use Rattle.dt_meaning.specs.Phandles.{assigned, wanted}
+use Rattle.dt_source.specs.TreeMeaning.References.{Found, found_value, held, in_order, preorder, references}
+use Rattle.dt_source.specs.TreeMeaning.Phandles.{assigned, wanted}
 use Rattle.dt_live.specs.Index.{row_of}
 use Rattle.dt_live.specs.declared.live_tree.NodeRow.{NodeRow}
 use Rattle.dt_live.specs.declared.preorder.properties.NodeProperty.{NodeProperty}
 use Rattle.dt_live.specs.Rows.{is_standing, node_path, path_of}
-use Rattle.dt_edit.specs.Said.{Parts, tree_of}
+use Rattle.dt_build.specs.Edit.Said.{Parts, tree_of}
 use Rattle.dt_live.proofs.Each.{Each, each-all, each-more, each-of}
 use Rattle.dt_live.proofs.Runs.{HasName, all-named as runs-named}
-use Rattle.dt_tree_builder.specs.Standing.{are_apart, AreNodes}
+use Rattle.dt_live.specs.Builder.Standing.{are_apart, AreNodes}
 use Rattle.dt_live.proofs.NodesStanding.{are-nodes, there-by}
-use Rattle.dt_resolve.specs.declared.node_phandles.NodePhandle.{NodePhandle}
-use Rattle.dt_resolve.specs.declared.prepared.Prepared.{Prepared}
-use Rattle.dt_resolve.specs.NodePhandles.{AreStanding, path_phandle_of}
-use Rattle.dt_resolve.specs.Prepared.{IsPrepared}
-use Rattle.dt_resolve.specs.Private.ReadProperty.{read_property}
-use Rattle.dt_resolve.specs.Targets.{IsThere}
-use Rattle.dt_resolve.proofs.FoundProperties.{properties-found}
-use Rattle.dt_resolve.proofs.LeftRows.{filter-every}
-use Rattle.dt_resolve.proofs.ReadOrder.{read-order}
+use Rattle.dt_build.specs.declared.resolve.node_phandles.NodePhandle.{NodePhandle}
+use Rattle.dt_build.specs.declared.resolve.prepared.Prepared.{Prepared}
+use Rattle.dt_build.specs.Resolve.NodePhandles.{AreStanding, path_phandle_of}
+use Rattle.dt_build.specs.Resolve.Prepared.{IsPrepared}
+use Rattle.dt_build.specs.Resolve.Private.ReadProperty.{read_property}
+use Rattle.dt_build.specs.Resolve.Targets.{IsThere}
+use Rattle.dt_build.proofs.ResolveLemmas.FoundProperties.{properties-found}
+use Rattle.dt_build.proofs.ResolveLemmas.LeftRows.{filter-every}
+use Rattle.dt_build.proofs.ResolveLemmas.ReadOrder.{read-order}
 use Rattle.dt_build.specs.declared.draft.Draft.{Draft}
 use Rattle.dt_build.specs.Private.Drafts.{drafted}
 use Rattle.dt_build.specs.Private.FirstPhandle.{IsByPath, number_of}

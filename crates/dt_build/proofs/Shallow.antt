@@ -1,15 +1,15 @@
 -- What a state is resolved to: the tree that is put together, unless it is too deep.
 use Rattle.std.proofs.Common.{◌≡◌, ℕ, Bool, true, false, ◌&&◌, ◌||◌, List, [], ◌∷◌, ◌++◌, map, Ok, refl, ◌∙◌}
-use Rattle.dt_meaning.specs.Names.{symbols_name, fixups_name, local_fixups_name}
-use Rattle.dt_meaning.specs.Paths.{is_listed}
-use Rattle.dt_meaning.specs.Syntax.{Piece}
-use Rattle.dt_meaning.specs.Edits.{Definition, State, counted}
-use Rattle.dt_meaning.specs.References.{Found, in_order, references}
-use Rattle.dt_meaning.specs.Phandles.{PathPhandle, given_of, assigned, wanted}
-use Rattle.dt_meaning.specs.Fixups.{sites, fixups, local_fixups}
-use Rattle.dt_meaning.specs.Resolved.{Resolved, has_child, names_taken, phandle_property, put_together, resolved_state, shallow, symbol, when, with_bytes, with_more}
-use Rattle.dt_tree_builder.proofs.PathFacts.{or-false}
-use Rattle.dt_resolve.proofs.Counted.{counted-resolved}
+use Rattle.dt_source.specs.TreeMeaning.Names.{symbols_name, fixups_name, local_fixups_name}
+use Rattle.dt_source.specs.TreeMeaning.Paths.{is_listed}
+use Rattle.dt_source.specs.TreeMeaning.Syntax.{Piece}
+use Rattle.dt_source.specs.TreeMeaning.Edits.{Definition, State, counted}
+use Rattle.dt_source.specs.TreeMeaning.References.{Found, in_order, references}
+use Rattle.dt_source.specs.TreeMeaning.Phandles.{PathPhandle, given_of, assigned, wanted}
+use Rattle.dt_source.specs.TreeMeaning.Fixups.{sites, fixups, local_fixups}
+use Rattle.dt_source.specs.TreeMeaning.Resolved.{Resolved, has_child, names_taken, phandle_property, put_together, resolved_state, shallow, symbol, when, with_bytes, with_more}
+use Rattle.dt_live.proofs.BuilderLemmas.PathFacts.{or-false}
+use Rattle.dt_build.proofs.ResolveLemmas.Counted.{counted-resolved}
 
 -- ---- no node has a name that is kept for what is added
 pub symbols-free : {V : Type 0} (plugin : Bool) (s : State V) → names_taken true plugin s ≡ false → is_listed (symbols_name ∷ []) s.nodes ≡ false

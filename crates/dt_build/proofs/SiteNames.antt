@@ -1,13 +1,13 @@
 -- The names of the properties that hold phandles, and the labels there, are names.
 use Rattle.std.proofs.Common.{◌≡◌, ◌+◌, ◌<◌, ℕ, Bool, true, false, List, [], ◌∷◌, length, get_or, map, Option, sym, subst}
 use Rattle.std.specs.Prelude.{All}
-use Rattle.dt_meaning.specs.Paths.{Path}
-use Rattle.dt_meaning.specs.Edits.{Definition}
-use Rattle.dt_meaning.specs.References.{Found, Bytes, Cell, Open, PathText}
-use Rattle.dt_meaning.specs.Phandles.{PathPhandle}
-use Rattle.dt_meaning.specs.Fixups.{Site, bytes_of, label_found, sites, sites_in}
-use Rattle.dt_meaning.specs.Resolved.{when}
-use Rattle.dt_edit.specs.Said.{Parts}
+use Rattle.dt_source.specs.TreeMeaning.Paths.{Path}
+use Rattle.dt_source.specs.TreeMeaning.Edits.{Definition}
+use Rattle.dt_source.specs.TreeMeaning.References.{Found, Bytes, Cell, Open, PathText}
+use Rattle.dt_source.specs.TreeMeaning.Phandles.{PathPhandle}
+use Rattle.dt_source.specs.TreeMeaning.Fixups.{Site, bytes_of, label_found, sites, sites_in}
+use Rattle.dt_source.specs.TreeMeaning.Resolved.{when}
+use Rattle.dt_build.specs.Edit.Said.{Parts}
 use Rattle.dt_live.specs.declared.preorder.properties.NodeProperty.{NodeProperty}
 use Rattle.dt_live.proofs.Each.{Each, each-append, each-flat, each-more, each-of}
 use Rattle.dt_build.specs.declared.draft.Draft.{Draft}

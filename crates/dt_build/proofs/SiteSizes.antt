@@ -1,11 +1,11 @@
 -- How long the texts and the offsets of fixup sites are.
 use Rattle.std.proofs.Common.{◌≡◌, ℕ, ◌+◌, ◌-◌, ◌^◌, min, Bool, true, false, List, [], ◌∷◌, ◌++◌, length, Option, Some, None, if◌then◌else◌, length-append, arith}
 use Rattle.dt_tree.specs.Path.{path_text}
-use Rattle.dt_meaning.specs.Names.{decimal}
-use Rattle.dt_meaning.specs.Paths.{Path}
-use Rattle.dt_meaning.specs.Edits.{Definition, is_of}
-use Rattle.dt_meaning.specs.Fixups.{Site, appended, fixup, fixups, local_fixup, local_fixups, site_text}
-use Rattle.dt_tree_builder.specs.Sizes.{size_in}
+use Rattle.dt_source.specs.TreeMeaning.Names.{decimal}
+use Rattle.dt_source.specs.TreeMeaning.Paths.{Path}
+use Rattle.dt_source.specs.TreeMeaning.Edits.{Definition, is_of}
+use Rattle.dt_source.specs.TreeMeaning.Fixups.{Site, appended, fixup, fixups, local_fixup, local_fixups, site_text}
+use Rattle.dt_live.specs.Builder.Sizes.{size_in}
 use Rattle.dt_build.specs.Private.FixupSites.{site_with, sites_size, size_by}
 
 -- ---- the properties' values

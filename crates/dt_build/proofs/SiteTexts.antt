@@ -2,9 +2,9 @@
 use Rattle.std.proofs.Common.{◌≡◌, ℕ, ◌-◌, List, Option, [], ◌∷◌, ◌++◌, length, take, sym, ap, ◌∙◌, append_assoc, length-append, arith}
 use Rattle.std.proofs.Math.Seq.{take-append_seam}
 use Rattle.dt_tree.specs.Path.{path_text}
-use Rattle.dt_meaning.specs.Names.{decimal}
-use Rattle.dt_meaning.specs.Paths.{Path}
-use Rattle.dt_meaning.specs.Fixups.{site_text}
+use Rattle.dt_source.specs.TreeMeaning.Names.{decimal}
+use Rattle.dt_source.specs.TreeMeaning.Paths.{Path}
+use Rattle.dt_source.specs.TreeMeaning.Fixups.{site_text}
 use Rattle.dt_build.specs.Private.FixupSites.{site_with}
 
 parts-joined : (v a n d : List ℕ) → (((((v ++ a) ++ 58 ∷ []) ++ n) ++ 58 ∷ []) ++ d) ++ 0 ∷ [] ≡ v ++ (a ++ 58 ∷ n ++ 58 ∷ d ++ 0 ∷ [])

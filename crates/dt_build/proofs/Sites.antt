@@ -1,15 +1,15 @@
 -- The list of fixup sites, one more or one further.
 use Rattle.std.proofs.Common.{◌≡◌, ℕ, zero, suc, ◌+◌, ◌<◌, ◌≤◌, List, [], ◌∷◌, ◌++◌, length, get_or, drop, map, Option, None, sym, ap, ap₂, ◌∙◌, append_assoc, arith}
 use Rattle.std.proofs.lemmas.List.{at_drop_more, get_or-map}
-use Rattle.dt_meaning.specs.Paths.{Path}
-use Rattle.dt_meaning.specs.Edits.{definition}
-use Rattle.dt_meaning.specs.References.{Found}
-use Rattle.dt_meaning.specs.Phandles.{PathPhandle}
-use Rattle.dt_meaning.specs.Fixups.{Site, bytes_of, label_found, sites_in}
+use Rattle.dt_source.specs.TreeMeaning.Paths.{Path}
+use Rattle.dt_source.specs.TreeMeaning.Edits.{definition}
+use Rattle.dt_source.specs.TreeMeaning.References.{Found}
+use Rattle.dt_source.specs.TreeMeaning.Phandles.{PathPhandle}
+use Rattle.dt_source.specs.TreeMeaning.Fixups.{Site, bytes_of, label_found, sites_in}
 use Rattle.dt_live.specs.Rows.{node_path}
 use Rattle.dt_live.specs.declared.preorder.properties.NodeProperty.{NodeProperty}
-use Rattle.dt_edit.specs.Said.{Parts}
-use Rattle.dt_resolve.specs.Founds.{found_property}
+use Rattle.dt_build.specs.Edit.Said.{Parts}
+use Rattle.dt_build.specs.Resolve.Founds.{found_property}
 use Rattle.dt_build.specs.declared.draft.Draft.{Draft}
 use Rattle.dt_build.specs.declared.fixup_sites.FixupSite.{FixupSite}
 use Rattle.dt_build.specs.Private.FixupSites.{AreBetween, all_left, fixed_sites, key_at, key_of, site_with}

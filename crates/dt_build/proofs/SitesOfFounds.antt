@@ -1,18 +1,18 @@
 -- The fixup sites of all values that were found are those of a walk over the properties and the targets.
 use Rattle.std.proofs.Common.{◌≡◌, ℕ, Bool, true, false, List, [], ◌∷◌, ◌++◌, drop, Option, if◌then◌else◌, refl, ap}
 use Rattle.std.specs.List.{filter}
-use Rattle.dt_meaning.specs.Paths.{Path}
-use Rattle.dt_meaning.specs.Phandles.{PathPhandle}
-use Rattle.dt_meaning.specs.Edits.{Definition}
-use Rattle.dt_meaning.specs.Fixups.{Site, sites, sites_in}
-use Rattle.dt_meaning.specs.References.{Found}
+use Rattle.dt_source.specs.TreeMeaning.Paths.{Path}
+use Rattle.dt_source.specs.TreeMeaning.Phandles.{PathPhandle}
+use Rattle.dt_source.specs.TreeMeaning.Edits.{Definition}
+use Rattle.dt_source.specs.TreeMeaning.Fixups.{Site, sites, sites_in}
+use Rattle.dt_source.specs.TreeMeaning.References.{Found}
 use Rattle.dt_live.specs.Rows.{node_path}
 use Rattle.dt_live.specs.declared.preorder.properties.NodeProperty.{NodeProperty}
-use Rattle.dt_edit.specs.Said.{Parts}
+use Rattle.dt_build.specs.Edit.Said.{Parts}
 use Rattle.dt_build.specs.declared.draft.Draft.{Draft}
 use Rattle.dt_build.specs.Private.Made.{all_phandles, fixed, is_fixed}
-use Rattle.dt_resolve.specs.Founds.{all_uses, found_properties, found_property}
-use Rattle.dt_resolve.specs.Gathered.{targets_anew}
+use Rattle.dt_build.specs.Resolve.Founds.{all_uses, found_properties, found_property}
+use Rattle.dt_build.specs.Resolve.Gathered.{targets_anew}
 use Rattle.dt_build.specs.Private.FixupSites.{all_left}
 
 module _ (asks : Bool) (ns : List PathPhandle) where

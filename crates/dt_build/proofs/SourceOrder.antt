@@ -2,23 +2,23 @@
 use Rattle.std.proofs.Common.{◌≡◌, Option, ℕ, Bool, true, false, List, [], ◌∷◌, ◌++◌, map, drop, cond, refl, sym, ap, ap₂, ◌∙◌, arith}
 use Rattle.std.specs.List.{flat_map}
 use Rattle.std.proofs.lemmas.List.{map-append}
-use Rattle.dt_meaning.specs.Paths.{Path, same_path}
-use Rattle.dt_meaning.specs.Edits.{Definition, definition}
-use Rattle.dt_meaning.specs.References.{Found, held, preorder}
-use Rattle.dt_meaning.specs.Phandles.{PathPhandle}
-use Rattle.dt_meaning.specs.Fixups.{value_bytes}
-use Rattle.dt_meaning.specs.Resolved.{with_bytes}
+use Rattle.dt_source.specs.TreeMeaning.Paths.{Path, same_path}
+use Rattle.dt_source.specs.TreeMeaning.Edits.{Definition, definition}
+use Rattle.dt_source.specs.TreeMeaning.References.{Found, held, preorder}
+use Rattle.dt_source.specs.TreeMeaning.Phandles.{PathPhandle}
+use Rattle.dt_source.specs.TreeMeaning.Fixups.{value_bytes}
+use Rattle.dt_source.specs.TreeMeaning.Resolved.{with_bytes}
 use Rattle.dt_live.specs.Rows.{node_path}
 use Rattle.dt_live.specs.declared.preorder.properties.NodeProperty.{NodeProperty}
-use Rattle.dt_making.specs.Made.{IsInPreorder, IsRest, entries, values_in}
-use Rattle.dt_edit.specs.Said.{Parts, tree_of}
+use Rattle.dt_live.specs.Making.Made.{IsInPreorder, IsRest, entries, values_in}
+use Rattle.dt_build.specs.Edit.Said.{Parts, tree_of}
 use Rattle.dt_build.specs.declared.draft.Draft.{Draft}
 use Rattle.dt_build.specs.declared.node_phandles.NodePhandles.{NodePhandles}
 use Rattle.dt_build.specs.Private.NodePhandles.{AreNodePhandles}
 use Rattle.dt_build.specs.Private.Made.{all_phandles, founds, plain_properties}
 use Rattle.dt_build.specs.Private.Ready.{IsReady}
 use Rattle.dt_build.specs.Private.SourceValues.{source_made}
-use Rattle.dt_resolve.specs.Founds.{found_properties}
+use Rattle.dt_build.specs.Resolve.Founds.{found_properties}
 use Rattle.dt_build.specs.Private.Values.{all_uses, founds_of, values_of}
 use Rattle.dt_build.proofs.MakingNodes.{lawful}
 use Rattle.dt_build.proofs.NewPhandles.{own-is}

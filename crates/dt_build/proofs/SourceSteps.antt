@@ -2,15 +2,15 @@
 use Rattle.std.proofs.Common.{◌≡◌, Option, ℕ, ◌+◌, ◌-◌, ◌^◌, ◌<◌, ◌≤◌, min, List, ◌∷◌, length, get_or, drop, sym, ap, ◌∙◌, arith}
 use Rattle.std.proofs.Math.ListN.{drop_of_length-le}
 use Rattle.std.proofs.lemmas.List.{at_drop_more}
-use Rattle.dt_meaning.specs.Paths.{Path}
-use Rattle.dt_meaning.specs.Edits.{Definition}
-use Rattle.dt_meaning.specs.Phandles.{PathPhandle}
-use Rattle.dt_meaning.specs.Fixups.{value_bytes}
+use Rattle.dt_source.specs.TreeMeaning.Paths.{Path}
+use Rattle.dt_source.specs.TreeMeaning.Edits.{Definition}
+use Rattle.dt_source.specs.TreeMeaning.Phandles.{PathPhandle}
+use Rattle.dt_source.specs.TreeMeaning.Fixups.{value_bytes}
 use Rattle.dt_live.specs.declared.preorder.properties.NodeProperty.{NodeProperty}
-use Rattle.dt_making.specs.Made.{entries, values_in}
-use Rattle.dt_edit.specs.Said.{Parts}
-use Rattle.dt_tree_builder.specs.Sizes.{size_in}
-pub use Rattle.dt_resolve.proofs.PartSteps.{all-drop}
+use Rattle.dt_live.specs.Making.Made.{entries, values_in}
+use Rattle.dt_build.specs.Edit.Said.{Parts}
+use Rattle.dt_live.specs.Builder.Sizes.{size_in}
+pub use Rattle.dt_build.proofs.ResolveLemmas.PartSteps.{all-drop}
 use Rattle.dt_build.specs.Private.Values.{all_uses, founds_of, values_of}
 
 module _ (ns : List PathPhandle) (path : ℕ → Path) where

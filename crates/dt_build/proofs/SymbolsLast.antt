@@ -4,16 +4,16 @@ use Rattle.std.specs.Prelude.{All}
 use Rattle.std.specs.List.{filter, flat_map}
 use Rattle.std.specs.Str.{bytes_eq}
 use Rattle.std.proofs.lemmas.List.Concat.{flat_map-append}
-use Rattle.dt_meaning.specs.Names.{symbols_name}
-use Rattle.dt_meaning.specs.Paths.{Path, same_path, is_listed, name_below}
-use Rattle.dt_meaning.specs.Edits.{Definition, Label}
-use Rattle.dt_meaning.specs.References.{walk, preorder, held}
-use Rattle.dt_meaning.specs.Phandles.{new_ones}
-use Rattle.dt_meaning.specs.Resolved.{Resolved, fronts, symbol, with_more}
-use Rattle.dt_tree_builder.specs.Standing.{AreNodes, walked, behind_root}
+use Rattle.dt_source.specs.TreeMeaning.Names.{symbols_name}
+use Rattle.dt_source.specs.TreeMeaning.Paths.{Path, same_path, is_listed, name_below}
+use Rattle.dt_source.specs.TreeMeaning.Edits.{Definition, Label}
+use Rattle.dt_source.specs.TreeMeaning.References.{walk, preorder, held}
+use Rattle.dt_source.specs.TreeMeaning.Phandles.{new_ones}
+use Rattle.dt_source.specs.TreeMeaning.Resolved.{Resolved, fronts, symbol, with_more}
+use Rattle.dt_live.specs.Builder.Standing.{AreNodes, walked, behind_root}
 use Rattle.dt_build.specs.Private.Made.{bare_node, with_nodes}
-use Rattle.dt_tree_builder.proofs.Orders.{behind, held-append, there-same, no-below}
-use Rattle.dt_tree_builder.proofs.PathFacts.{not-both, same-itself, child-is, listed-first, listed-next, listed-other, other-side}
+use Rattle.dt_live.proofs.BuilderLemmas.Orders.{behind, held-append, there-same, no-below}
+use Rattle.dt_live.proofs.BuilderLemmas.PathFacts.{not-both, same-itself, child-is, listed-first, listed-next, listed-other, other-side}
 use Rattle.dt_build.proofs.HeldProperties.{held-other}
 
 -- ---- children that are kept of a list

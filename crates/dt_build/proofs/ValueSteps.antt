@@ -3,10 +3,10 @@ use Rattle.std.proofs.Common.{◌≡◌, Option, None, ℕ, ◌+◌, ◌-◌, �
 use Rattle.std.proofs.lemmas.List.{at_drop_more, get_or-drop, drop-drop}
 use Rattle.dt_source.specs.declared.tree.Part.{Part}
 use Rattle.dt_source.specs.declared.tree.Part.TheVariants as parts
-use Rattle.dt_meaning.specs.Paths.{Path}
-use Rattle.dt_meaning.specs.References.{Found}
-use Rattle.dt_meaning.specs.Phandles.{PathPhandle}
-use Rattle.dt_meaning.specs.Fixups.{bytes_of, value_bytes}
+use Rattle.dt_source.specs.TreeMeaning.Paths.{Path}
+use Rattle.dt_source.specs.TreeMeaning.References.{Found}
+use Rattle.dt_source.specs.TreeMeaning.Phandles.{PathPhandle}
+use Rattle.dt_source.specs.TreeMeaning.Fixups.{bytes_of, value_bytes}
 use Rattle.dt_build.specs.Private.Values.{uses, all_uses, found_of, founds_of}
 
 -- ---- targets

@@ -3,17 +3,17 @@ use Rattle.std.proofs.Common.{◌≡◌, Bool, true, false, not, List, [], ◌�
 use Rattle.std.specs.List.{flat_map}
 use Rattle.std.proofs.lemmas.Bool.{and_parts}
 use Rattle.dt_tree.specs.Steps.{then_do, each}
-use Rattle.dt_meaning.specs.Paths.{Path, same_path, is_listed}
-use Rattle.dt_meaning.specs.Syntax.{Piece}
-use Rattle.dt_meaning.specs.Edits.{Definition, definition, State}
-use Rattle.dt_meaning.specs.Statements.{Fault}
-use Rattle.dt_meaning.specs.Resolved.{Resolved}
-use Rattle.dt_meaning.specs.References.{Found, found_in, found_value, held, in_order, preorder, references}
+use Rattle.dt_source.specs.TreeMeaning.Paths.{Path, same_path, is_listed}
+use Rattle.dt_source.specs.TreeMeaning.Syntax.{Piece}
+use Rattle.dt_source.specs.TreeMeaning.Edits.{Definition, definition, State}
+use Rattle.dt_source.specs.TreeMeaning.Statements.{Fault}
+use Rattle.dt_source.specs.TreeMeaning.Resolved.{Resolved}
+use Rattle.dt_source.specs.TreeMeaning.References.{Found, found_in, found_value, held, in_order, preorder, references}
 use Rattle.dt_live.proofs.Each.{Each}
-use Rattle.dt_tree_builder.specs.Standing.{are_apart, AreNodes}
-use Rattle.dt_tree_builder.proofs.InTurn.{each-once}
-use Rattle.dt_tree_builder.proofs.Orders.{held-append, behind, there-same}
-use Rattle.dt_tree_builder.proofs.PathFacts.{not-true, same-is, or-false, other-side}
+use Rattle.dt_live.specs.Builder.Standing.{are_apart, AreNodes}
+use Rattle.dt_live.proofs.BuilderLemmas.InTurn.{each-once}
+use Rattle.dt_live.proofs.BuilderLemmas.Orders.{held-append, behind, there-same}
+use Rattle.dt_live.proofs.BuilderLemmas.PathFacts.{not-true, same-is, or-false, other-side}
 use Rattle.dt_build.proofs.HeldProperties.{held-other, held-own}
 
 -- ---- the walk meets what is listed

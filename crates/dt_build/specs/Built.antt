@@ -5,12 +5,12 @@ use Rattle.dt_tree.specs.NodeData.{NodeData}
 use Rattle.dt_tree.specs.PathMap.{path_map, tree_map}
 use Rattle.dt_tree.specs.Sound.{IsSound}
 use Rattle.dt_tree.specs.TreeData.{TreeData}
-use Rattle.dt_meaning.specs.Syntax.{Meaning}
-use Rattle.dt_meaning.specs.MapOf.{map_of, tree_map_of}
-use Rattle.dt_meaning.specs.Resolved.{Resolved, resolved}
-use Rattle.dt_tree_builder.specs.Sizes.{size_in, size_below}
-use Rattle.dt_resolve.specs.declared.error.BuildError.{BuildError}
-use Rattle.dt_resolve.specs.BuildFault.{IsFault}
+use Rattle.dt_source.specs.TreeMeaning.Syntax.{Meaning}
+use Rattle.dt_source.specs.TreeMeaning.MapOf.{map_of, tree_map_of}
+use Rattle.dt_source.specs.TreeMeaning.Resolved.{Resolved, resolved}
+use Rattle.dt_live.specs.Builder.Sizes.{size_in, size_below}
+use Rattle.dt_build.specs.declared.resolve.error.BuildError.{BuildError}
+use Rattle.dt_build.specs.Resolve.BuildFault.{IsFault}
 
 -- the tree is the source's resolved tree
 pub record IsTreeOf (symbols : Bool) (m : Meaning) (t : TreeData) : Type 0 where

@@ -7,16 +7,16 @@ use Rattle.dt_tree.specs.NodeData.{NodeData}
 use Rattle.dt_tree.specs.PathMap.{TreeMap, path_map, tree_map}
 use Rattle.dt_tree.specs.Sound.{IsSound}
 use Rattle.dt_tree.specs.TreeData.{TreeData}
-use Rattle.dt_meaning.specs.Syntax.{Meaning}
-use Rattle.dt_meaning.specs.BootProcessor.{dtc_boot_processor}
-use Rattle.dt_meaning.specs.DtcResolved.{dtc_resolved}
-use Rattle.dt_meaning.specs.MapOf.{map_of, tree_map_of}
-use Rattle.dt_meaning.specs.Resolved.{Resolved}
-use Rattle.dt_tree_builder.specs.Sizes.{size_in, size_below}
+use Rattle.dt_source.specs.TreeMeaning.Syntax.{Meaning}
+use Rattle.dt_source.specs.TreeMeaning.BootProcessor.{dtc_boot_processor}
+use Rattle.dt_source.specs.TreeMeaning.DtcResolved.{dtc_resolved}
+use Rattle.dt_source.specs.TreeMeaning.MapOf.{map_of, tree_map_of}
+use Rattle.dt_source.specs.TreeMeaning.Resolved.{Resolved}
+use Rattle.dt_live.specs.Builder.Sizes.{size_in, size_below}
 use Rattle.dt_source.specs.declared.tree.Source.{Source}
 use Rattle.dt_source.specs.Meaning.{meaning_of}
-use Rattle.dt_resolve.specs.declared.error.BuildError.{BuildError}
-use Rattle.dt_resolve.specs.BuildFault.{IsFault}
+use Rattle.dt_build.specs.declared.resolve.error.BuildError.{BuildError}
+use Rattle.dt_build.specs.Resolve.BuildFault.{IsFault}
 use Rattle.dt_build.specs.declared.dtc_building.Built.{Built}
 use Rattle.dt_build.specs.Places.{ArePlacesOf, first_root}
 

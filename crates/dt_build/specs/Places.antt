@@ -4,20 +4,20 @@ use Rattle.std.specs.Prelude.{◌≡◌, ◌==◌, ℕ, zero, suc, Bool, not, Li
 use Rattle.std.specs.List.{filter}
 use Rattle.dt_source.specs.declared.tree.Item.{Item}
 use Rattle.dt_source.specs.declared.tree.Item.TheVariants.{Root}
-use Rattle.dt_meaning.specs.Syntax.{Meaning}
-use Rattle.dt_meaning.specs.DtcEdits.{DtcTree}
-use Rattle.dt_meaning.specs.DtcResolved as meaning
-use Rattle.dt_meaning.specs.DtcStatements.{dtc_edited}
+use Rattle.dt_source.specs.TreeMeaning.Syntax.{Meaning}
+use Rattle.dt_source.specs.TreeMeaning.DtcEdits.{DtcTree}
+use Rattle.dt_source.specs.TreeMeaning.DtcResolved as meaning
+use Rattle.dt_source.specs.TreeMeaning.DtcStatements.{dtc_edited}
 use Rattle.dt_live.specs.declared.live_tree.LiveTree.{LiveTree}
 use Rattle.dt_live.specs.declared.live_tree.NodeRow.{NodeRow}
 use Rattle.dt_live.specs.declared.preorder.properties.NodeProperty.{NodeProperty}
 use Rattle.dt_live.specs.Rows.{node_path, row_at}
-use Rattle.dt_making.specs.declared.places.Places.{Places}
-use Rattle.dt_making.specs.Places.{totals}
-use Rattle.dt_edit.specs.Said.{Parts}
-use Rattle.dt_resolve.specs.declared.gathered.Gathered.{Gathered}
-use Rattle.dt_resolve.specs.Founds.{found_property}
-use Rattle.dt_resolve.specs.Gathered.{IsGathered, all_gathered}
+use Rattle.dt_live.specs.declared.making.places.Places.{Places}
+use Rattle.dt_live.specs.Making.Places.{totals}
+use Rattle.dt_build.specs.Edit.Said.{Parts}
+use Rattle.dt_build.specs.declared.resolve.gathered.Gathered.{Gathered}
+use Rattle.dt_build.specs.Resolve.Founds.{found_property}
+use Rattle.dt_build.specs.Resolve.Gathered.{IsGathered, all_gathered}
 
 -- where the slash of the first root stands
 abbrev pub first_root : List Item → ℕ

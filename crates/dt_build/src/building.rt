@@ -1,10 +1,10 @@
 //! The tree of a source.
 ghost use Rattle.std.specs.Prelude.{◌≡◌, false, IfOk};
 ghost use Rattle.std.specs.List.{list_any};
-ghost use Rattle.dt_meaning.specs.Resolved.{is_too_deep, names_taken};
+ghost use Rattle.dt_source.specs.TreeMeaning.Resolved.{is_too_deep, names_taken};
 ghost use Rattle.dt_source.specs.Lawful.{IsLawful};
-ghost use Rattle.dt_edit.specs.Fragments.{AreFragments};
-ghost use Rattle.dt_edit.specs.Said.{tree_of};
+ghost use Rattle.dt_build.specs.Edit.Fragments.{AreFragments};
+ghost use Rattle.dt_build.specs.Edit.Said.{tree_of};
 ghost use Rattle.dt_source.specs.Meaning.{meaning_of};
 ghost use Rattle.dt_build.specs.Built.{Builds, BuildsTree};
 ghost use Rattle.dt_build.specs.Private.FixupSites.{AreSites};
@@ -13,13 +13,13 @@ ghost use Rattle.dt_build.specs.Private.Made.{lists};
 ghost use Rattle.dt_build.specs.Private.Ready.{IsReady};
 
 use crate::draft::{Draft, draft_of};
+use crate::edit::{Fragments, fragments_of};
 use crate::fixup_sites::{FixupSite, find_sites};
 use crate::local_depth::local_too_deep;
 use crate::making::make;
 use crate::node_phandles::number;
+use crate::resolve::{BuildError, BuildErrorKind, prepare};
 use crate::sizes::total_size;
-use dt_edit::{Fragments, fragments_of};
-use dt_resolve::{BuildError, BuildErrorKind, prepare};
 use dt_source::Source;
 use dt_tree::Tree;
 use std::alloc::{AllocError, Global};

@@ -1,6 +1,6 @@
 //! Numbers in decimal digits.
 ghost use Rattle.std.specs.Prelude.{◌≡◌, ◌≤◌, ◌++◌, OnOk, drop, length};
-ghost use Rattle.dt_meaning.specs.Names.{decimal};
+ghost use Rattle.dt_source.specs.TreeMeaning.Names.{decimal};
 
 use std::alloc::AllocError;
 

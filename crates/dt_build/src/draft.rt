@@ -1,10 +1,10 @@
 //! What a tree is made of, whichever language its source is in.
 ghost use Rattle.std.specs.Prelude.{◌≡◌, IfOk};
-ghost use Rattle.dt_resolve.specs.Gathered.{targets_anew};
+ghost use Rattle.dt_build.specs.Resolve.Gathered.{targets_anew};
 ghost use Rattle.dt_build.specs.Private.Drafts.{IsDraftOf};
 
+use crate::resolve::{NodePhandle, Prepared, Resolution};
 use dt_live::{LiveTree, Preorder};
-use dt_resolve::{NodePhandle, Prepared, Resolution};
 use dt_source::Value;
 use std::alloc::{AllocError, Global};
 

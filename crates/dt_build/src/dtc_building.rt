@@ -2,16 +2,16 @@
 ghost use Rattle.std.specs.Prelude.{IfOk, IfSome};
 ghost use Rattle.dt_source.specs.Lawful.{IsLawful};
 ghost use Rattle.dt_source.specs.Meaning.{meaning_of};
-ghost use Rattle.dt_edit.specs.Fragments.{AreFragments};
+ghost use Rattle.dt_build.specs.Edit.Fragments.{AreFragments};
 ghost use Rattle.dt_build.specs.BuiltByDtc.{BuildsDtc, HasPlaces, trees_of};
 ghost use Rattle.dt_build.specs.Private.DtcTrees.{IsGatheredOf, IsReadAs};
 
 use crate::building::draft_tree;
 use crate::dtc_draft::dtc_draft_of;
+use crate::edit::{Fragments, Standing, edit_dtc, fragments_of};
 use crate::places::{first_root, places_of};
-use dt_edit::{Fragments, Standing, edit_dtc, fragments_of};
-use dt_making::Places;
-use dt_resolve::{BuildError, Gathered, gather};
+use crate::resolve::{BuildError, Gathered, gather};
+use dt_live::making::Places;
 use dt_source::Source;
 use dt_tree::Tree;
 use std::alloc::Global;

@@ -2,14 +2,14 @@
 ghost use Rattle.std.specs.Prelude.{◌≡◌, ◌<◌, All, IfOk, length};
 ghost use Rattle.std.specs.List.{filter};
 ghost use Rattle.dt_live.specs.Rows.{IsLiveTree, IsNode};
-ghost use Rattle.dt_resolve.specs.NodePhandles.{AreMarks};
-ghost use Rattle.dt_resolve.specs.Private.Gone.{is_marked};
+ghost use Rattle.dt_build.specs.Resolve.NodePhandles.{AreMarks};
+ghost use Rattle.dt_build.specs.Resolve.Private.Gone.{is_marked};
 ghost use Rattle.dt_build.specs.Private.DtcDrafts.{IsDtcDraft, has_own_row, is_added, kept_properties};
 
 use crate::draft::Draft;
 use crate::node_names::repeats_name;
+use crate::resolve::{Gathered, NodePhandle};
 use dt_live::{LiveTree, NodeProperty, Preorder};
-use dt_resolve::{Gathered, NodePhandle};
 use dt_source::Value;
 use std::alloc::{AllocError, Global};
 

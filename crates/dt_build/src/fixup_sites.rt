@@ -1,17 +1,17 @@
 //! The fixup sites of a plugin, found once: one for each phandle in its values, in the order of the walk.
 ghost use Rattle.std.specs.Prelude.{◌≡◌, ◌<◌, ◌+◌, true, All, IfOk, OnOk, length};
-ghost use Rattle.dt_resolve.specs.Targets.{IsKnown, IsToldApart};
+ghost use Rattle.dt_build.specs.Resolve.Targets.{IsKnown, IsToldApart};
 ghost use Rattle.dt_build.specs.Private.Ready.{IsReady};
 ghost use Rattle.dt_live.specs.Rows.{IsNode, node_path};
-ghost use Rattle.dt_resolve.specs.Founds.{found_property};
+ghost use Rattle.dt_build.specs.Resolve.Founds.{found_property};
 ghost use Rattle.dt_build.specs.Private.FixupSites.{AreBetween, AreSites, PutsFixed, PutsPart, PutsAll, key_at, key_of};
 ghost use Rattle.dt_build.specs.Private.Made.{is_fixed};
 ghost use Rattle.dt_build.specs.Private.Values.{label_in, part_bytes};
 
 use crate::draft::{Draft, fixed_targets};
+use crate::resolve::{asks_for_own, target_at, target_count, targets_behind};
 use crate::value::part_size;
 use dt_live::NodeProperty;
-use dt_resolve::{asks_for_own, target_at, target_count, targets_behind};
 use dt_source::{Part, Reference, Value};
 use std::alloc::{AllocError, Global};
 

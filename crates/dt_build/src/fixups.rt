@@ -1,11 +1,11 @@
 //! The sites that a plugin leaves to its base, as properties of the root's child `__fixups__`.
 ghost use Rattle.std.specs.Prelude.{◌≡◌, [], false, IfOk};
-ghost use Rattle.dt_meaning.specs.Fixups.{fixups};
-ghost use Rattle.dt_meaning.specs.Resolved.{names_taken};
-ghost use Rattle.dt_edit.specs.Said.{tree_of};
-ghost use Rattle.dt_tree_builder.specs.Lists.{defined_at};
-ghost use Rattle.dt_tree_builder.specs.Builders.{built_lists};
-ghost use Rattle.dt_tree_builder.specs.Standing.{walked};
+ghost use Rattle.dt_source.specs.TreeMeaning.Fixups.{fixups};
+ghost use Rattle.dt_source.specs.TreeMeaning.Resolved.{names_taken};
+ghost use Rattle.dt_build.specs.Edit.Said.{tree_of};
+ghost use Rattle.dt_live.specs.Builder.Lists.{defined_at};
+ghost use Rattle.dt_live.specs.Builder.Builders.{built_lists};
+ghost use Rattle.dt_live.specs.Builder.Standing.{walked};
 ghost use Rattle.dt_build.specs.Private.ByLabel.{fixups_path};
 ghost use Rattle.dt_build.specs.Private.Made.{fixup_lists, made_sites, symbol_lists};
 ghost use Rattle.dt_build.specs.Private.Ready.{IsReady};
@@ -14,8 +14,8 @@ ghost use Rattle.dt_build.specs.Private.FixupSites.{AreSites};
 use crate::draft::Draft;
 use crate::fixup_sites::FixupSite;
 use crate::fixups_by_label::collect_by_label;
+use dt_live::builder::TreeBuilder;
 use dt_tree::{Bytes, Property, lawful_name};
-use dt_tree_builder::TreeBuilder;
 use std::alloc::{AllocError, Global};
 
 // One property a label that no node has.

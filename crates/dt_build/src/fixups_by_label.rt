@@ -1,6 +1,6 @@
 //! A plugin's fixups by label.
 ghost use Rattle.std.specs.Prelude.{◌≡◌, ◌<◌, ◌-◌, ◌^◌, ◌++◌, [], IfOk, OnOk, Some, length, min};
-ghost use Rattle.dt_meaning.specs.Fixups.{appended, fixups, site_text};
+ghost use Rattle.dt_source.specs.TreeMeaning.Fixups.{appended, fixups, site_text};
 ghost use Rattle.dt_build.specs.Private.ByLabel.{AreIndexed, PutsSite, all_given, fixups_path, index_of};
 ghost use Rattle.dt_build.specs.Private.Made.{made_sites};
 ghost use Rattle.dt_build.specs.Private.Ready.{IsReady};

@@ -1,6 +1,6 @@
 //! Trees out of devicetree sources: edits, phandles, references, symbols and a plugin's fixups.
 //!
-//! The Devicetree Specification v0.4, chapter 6 and section 2.3.3, and `dt_meaning` say what a source means.
+//! The Devicetree Specification v0.4, chapter 6 and section 2.3.3, and `dt_source::tree_meaning` say what a source means.
 #![tactic(auto)]
 
 mod building;
@@ -8,6 +8,7 @@ mod digits;
 mod draft;
 mod dtc_building;
 mod dtc_draft;
+pub mod edit;
 mod fixup_sites;
 mod fixups;
 mod fixups_by_label;
@@ -18,11 +19,12 @@ mod making;
 mod node_names;
 mod node_phandles;
 mod places;
+pub mod resolve;
 mod sizes;
 mod source_values;
 mod symbols;
 mod value;
 
+pub use crate::resolve::{BuildError, BuildErrorKind};
 pub use building::{build, build_within};
-pub use dt_resolve::{BuildError, BuildErrorKind};
 pub use dtc_building::{Built, build_dtc_within};

@@ -1,7 +1,7 @@
 //! How deep a plugin's local fixups are.
 ghost use Rattle.std.specs.Prelude.{◌≡◌, ◌<◌, Bool, is_some, length};
 ghost use Rattle.std.specs.List.{list_any};
-ghost use Rattle.dt_meaning.specs.Resolved.{is_too_deep};
+ghost use Rattle.dt_source.specs.TreeMeaning.Resolved.{is_too_deep};
 ghost use Rattle.dt_build.specs.Private.Made.{lists};
 ghost use Rattle.dt_build.specs.Private.Ready.{IsReady};
 ghost use Rattle.dt_build.specs.Private.FixupSites.{AreSites, is_deep, site_of};

@@ -1,10 +1,10 @@
 //! The local fixups of a plugin's nodes below the root's child `__local_fixups__`.
 ghost use Rattle.std.specs.Prelude.{◌≡◌, ◌≤◌, ◌<◌, ◌+◌, [], true, false, IfOk, OnOk, length, map, replicate};
 ghost use Rattle.std.specs.List.{list_any};
-ghost use Rattle.dt_meaning.specs.Resolved.{is_too_deep, names_taken};
-ghost use Rattle.dt_edit.specs.Said.{tree_of};
-ghost use Rattle.dt_tree_builder.specs.Builders.{built_lists};
-ghost use Rattle.dt_tree_builder.specs.Standing.{walked};
+ghost use Rattle.dt_source.specs.TreeMeaning.Resolved.{is_too_deep, names_taken};
+ghost use Rattle.dt_build.specs.Edit.Said.{tree_of};
+ghost use Rattle.dt_live.specs.Builder.Builders.{built_lists};
+ghost use Rattle.dt_live.specs.Builder.Standing.{walked};
 ghost use Rattle.dt_build.specs.Private.Made.{fixup_lists, lists as lists_of};
 ghost use Rattle.dt_build.specs.Private.FixupSites.{AreSites};
 ghost use Rattle.dt_build.specs.Private.LocalFixups.{AreListsFrom, AreMadeTo, AreMarks, ArePlaced, IsAtNode, ListsNodes, MarksNode, MarksNodes};
@@ -13,8 +13,8 @@ ghost use Rattle.dt_build.specs.Private.Ready.{IsReady};
 use crate::draft::Draft;
 use crate::fixup_sites::FixupSite;
 use crate::local_properties::{LocalFixup, local_properties};
+use dt_live::builder::TreeBuilder;
 use dt_tree::{Bytes, Property, lawful_name};
-use dt_tree_builder::TreeBuilder;
 use std::alloc::{AllocError, Global};
 use std::mem;
 

@@ -2,11 +2,11 @@
 ghost use Rattle.std.specs.Prelude.{◌≡◌, false, [], IfOk};
 ghost use Rattle.std.specs.List.{list_any};
 ghost use Rattle.dt_tree.specs.PathMap.{path_map};
-ghost use Rattle.dt_meaning.specs.MapOf.{map_of};
-ghost use Rattle.dt_meaning.specs.Resolved.{is_too_deep, names_taken};
-ghost use Rattle.dt_edit.specs.Said.{tree_of};
-ghost use Rattle.dt_tree_builder.specs.Builders.{built_lists};
-ghost use Rattle.dt_tree_builder.specs.Standing.{walked};
+ghost use Rattle.dt_source.specs.TreeMeaning.MapOf.{map_of};
+ghost use Rattle.dt_source.specs.TreeMeaning.Resolved.{is_too_deep, names_taken};
+ghost use Rattle.dt_build.specs.Edit.Said.{tree_of};
+ghost use Rattle.dt_live.specs.Builder.Builders.{built_lists};
+ghost use Rattle.dt_live.specs.Builder.Standing.{walked};
 ghost use Rattle.dt_build.specs.Private.Made.{lists, plain_lists, symbol_lists};
 ghost use Rattle.dt_build.specs.Private.NodePhandles.{AreNodePhandles};
 ghost use Rattle.dt_build.specs.Private.FixupSites.{AreSites};
@@ -19,9 +19,9 @@ use crate::local_nodes::with_local_fixups;
 use crate::node_phandles::NodePhandles;
 use crate::source_values::SourceValues;
 use crate::symbols::with_symbols;
-use dt_making::make_nodes;
+use dt_live::builder::TreeBuilder;
+use dt_live::making::make_nodes;
 use dt_tree::Node;
-use dt_tree_builder::TreeBuilder;
 use std::alloc::{AllocError, Global};
 
 // All nodes but that of the labels.

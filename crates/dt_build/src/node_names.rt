@@ -2,10 +2,10 @@
 ghost use Rattle.std.specs.Prelude.{◌≡◌, ◌==◌, ◌≤◌, ◌∷◌, ◌++◌, [], ℕ, length};
 ghost use Rattle.std.specs.List.{before_first};
 ghost use Rattle.std.specs.Str.{bytes_eq};
-ghost use Rattle.dt_meaning.specs.Paths.{Path};
-ghost use Rattle.dt_meaning.specs.DtcResolved.{is_string_of, last_name};
+ghost use Rattle.dt_source.specs.TreeMeaning.Paths.{Path};
+ghost use Rattle.dt_source.specs.TreeMeaning.DtcResolved.{is_string_of, last_name};
 ghost use Rattle.dt_live.specs.Rows.{IsGrown, IsLiveTree, IsNode, path_of};
-ghost use Rattle.dt_resolve.specs.Founds.{founds_of};
+ghost use Rattle.dt_build.specs.Resolve.Founds.{founds_of};
 ghost use Rattle.dt_build.specs.Private.DtcDrafts.{repeats};
 
 use dt_live::{LiveTree, NodeProperty, NodeRow};

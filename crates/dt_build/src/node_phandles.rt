@@ -5,7 +5,7 @@ ghost use Rattle.dt_build.specs.Private.NodePhandles.{AreNodePhandles};
 ghost use Rattle.dt_build.specs.Private.Ready.{IsReady};
 
 use crate::draft::Draft;
-use dt_resolve::{NodePhandle, nodes_with_phandles};
+use crate::resolve::{NodePhandle, nodes_with_phandles};
 use std::alloc::{AllocError, Global};
 
 /// The phandle of each node, the number that is no phandle where it has none; and whether it gets a property.

@@ -1,10 +1,10 @@
 //! Where the text has the nodes and the properties of the tree that is made of a draft.
 ghost use Rattle.std.specs.Prelude.{◌≡◌, ◌+◌, ◌<◌, ◌≤◌, ◌++◌, ℕ, All, IfOk, List, OnOk, Option, length, map, slice_index_or};
 ghost use Rattle.dt_live.specs.Rows.{node_path};
-ghost use Rattle.dt_making.specs.Places.{totals};
-ghost use Rattle.dt_meaning.specs.Paths.{Path};
-ghost use Rattle.dt_meaning.specs.Fixups.{label_found};
-ghost use Rattle.dt_resolve.specs.Targets.{IsKnown};
+ghost use Rattle.dt_live.specs.Making.Places.{totals};
+ghost use Rattle.dt_source.specs.TreeMeaning.Paths.{Path};
+ghost use Rattle.dt_source.specs.TreeMeaning.Fixups.{label_found};
+ghost use Rattle.dt_build.specs.Resolve.Targets.{IsKnown};
 ghost use Rattle.dt_build.specs.Private.Made.{all_phandles};
 ghost use Rattle.dt_build.specs.Places.{count_of, first_root, node_place};
 ghost use Rattle.dt_build.specs.Private.Places.{ArePlaces, AreReferences, offsets_of};
@@ -13,9 +13,9 @@ ghost use Rattle.dt_build.specs.Private.Values.{found_of, founds_of};
 
 use crate::draft::Draft;
 use crate::fixup_sites::offset_behind;
+use crate::resolve::{target_at, target_count, targets_behind};
+use dt_live::making::Places;
 use dt_live::{NodeProperty, NodeRow};
-use dt_making::Places;
-use dt_resolve::{target_at, target_count, targets_behind};
 use dt_source::{Item, Part, Value};
 use std::alloc::{AllocError, Global};
 

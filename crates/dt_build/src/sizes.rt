@@ -1,6 +1,6 @@
 //! How long the values of a tree are together.
 ghost use Rattle.std.specs.Prelude.{◌≡◌, ◌<◌, ◌-◌, ◌^◌, length, min};
-ghost use Rattle.dt_tree_builder.specs.Sizes.{size_in};
+ghost use Rattle.dt_live.specs.Builder.Sizes.{size_in};
 ghost use Rattle.dt_build.specs.Private.FixupSites.{AreSites, site_of, site_size, sites_size as all_size};
 ghost use Rattle.dt_build.specs.Private.Made.{lists, made_properties, made_sites, symbol_lists};
 ghost use Rattle.dt_build.specs.Private.Ready.{IsReady};

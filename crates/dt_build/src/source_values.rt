@@ -1,7 +1,7 @@
 //! The values of a source's properties, in the order of the walk.
 ghost use Rattle.std.specs.Prelude.{◌≡◌, ◌-◌, ◌^◌, min};
 ghost use Rattle.dt_live.specs.Rows.{node_path};
-ghost use Rattle.dt_tree_builder.specs.Sizes.{size_in};
+ghost use Rattle.dt_live.specs.Builder.Sizes.{size_in};
 ghost use Rattle.dt_build.specs.Private.Made.{all_phandles, plain_properties};
 ghost use Rattle.dt_build.specs.Private.Ready.{IsReady};
 ghost use Rattle.dt_build.specs.Private.SourceValues.{AreReady, source_made};
@@ -9,9 +9,9 @@ ghost use Rattle.dt_build.specs.Private.Values.{values_of};
 
 use crate::draft::Draft;
 use crate::node_phandles::NodePhandles;
+use crate::resolve::targets_behind;
 use crate::value::{value_bytes, value_size};
-use dt_making::Values;
-use dt_resolve::targets_behind;
+use dt_live::making::Values;
 use dt_source::Value;
 use dt_tree::Bytes;
 use std::alloc::{AllocError, Global};

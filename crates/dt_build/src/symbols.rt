@@ -1,20 +1,20 @@
 //! The labels of a tree, as properties of the root's child `__symbols__`.
 ghost use Rattle.std.specs.Prelude.{◌≡◌, ◌==◌, ◌||◌, ◌∷◌, ◌-◌, ◌^◌, [], true, false, length, map, not, IfOk, min};
 ghost use Rattle.dt_tree.specs.Name.{is_name};
-ghost use Rattle.dt_meaning.specs.Resolved.{names_taken, symbol};
+ghost use Rattle.dt_source.specs.TreeMeaning.Resolved.{names_taken, symbol};
 ghost use Rattle.dt_live.specs.Rows.{IsLiveTree, IsNode};
-ghost use Rattle.dt_edit.specs.Said.{tree_of};
-ghost use Rattle.dt_tree_builder.specs.Builders.{built_lists};
-ghost use Rattle.dt_tree_builder.specs.Standing.{walked};
-ghost use Rattle.dt_tree_builder.specs.Sizes.{size_in};
+ghost use Rattle.dt_build.specs.Edit.Said.{tree_of};
+ghost use Rattle.dt_live.specs.Builder.Builders.{built_lists};
+ghost use Rattle.dt_live.specs.Builder.Standing.{walked};
+ghost use Rattle.dt_live.specs.Builder.Sizes.{size_in};
 ghost use Rattle.dt_build.specs.Private.Made.{as_symbols, plain_lists, symbol_at, symbol_lists};
 ghost use Rattle.dt_build.specs.Private.Ready.{IsReady};
 
 use crate::draft::Draft;
+use dt_live::builder::TreeBuilder;
 use dt_live::{LabelRow, LiveTree, append_path, path_size};
 use dt_source::Value;
 use dt_tree::{Bytes, Property, lawful_name};
-use dt_tree_builder::TreeBuilder;
 use std::alloc::{AllocError, Global};
 
 // A label's property: the path of its node.

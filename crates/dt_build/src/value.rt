@@ -1,6 +1,6 @@
 //! The bytes of values whose references have targets.
 ghost use Rattle.std.specs.Prelude.{◌≡◌, ◌≤◌, ◌^◌, ◌-◌, ◌++◌, ◌∷◌, [], None, All, IfOk, OnOk, length, min};
-ghost use Rattle.dt_resolve.specs.Targets.{IsKnown};
+ghost use Rattle.dt_build.specs.Resolve.Targets.{IsKnown};
 ghost use Rattle.dt_build.specs.Private.FirstPhandle.{IsByPath};
 ghost use Rattle.dt_build.specs.Private.NodePhandles.{AreNodePhandles};
 ghost use Rattle.dt_build.specs.Private.Ready.{IsReady};
@@ -8,8 +8,8 @@ ghost use Rattle.dt_build.specs.Private.Values.{bytes_for, part_bytes};
 
 use crate::draft::Draft;
 use crate::node_phandles::NodePhandles;
+use crate::resolve::{target_at, target_count};
 use dt_live::{append_path, path_size};
-use dt_resolve::{target_at, target_count};
 use dt_source::Part;
 use dt_tree::Bytes;
 use std::alloc::{AllocError, Global};

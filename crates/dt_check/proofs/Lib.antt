@@ -1,4 +1,5 @@
 pub mod CellLemmas
+pub mod LinksLemmas
 pub mod ListLemmas
 pub mod MarkLemmas
 pub mod WalkLemmas

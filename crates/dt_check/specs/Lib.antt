@@ -4,6 +4,7 @@ pub mod Buses
 pub mod Cells
 pub mod Chosen
 pub mod Fault
+pub mod Links
 pub mod Lost
 pub mod Names
 pub mod Nodes

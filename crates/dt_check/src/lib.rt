@@ -11,6 +11,7 @@ mod cells;
 mod chosen;
 mod fault;
 mod here;
+pub mod links;
 mod lost;
 mod marks;
 mod message;

@@ -11,13 +11,13 @@ use Rattle.dt_tree.specs.NodeData.{Siblings, none, more, NodeData, child_names, 
 use Rattle.dt_tree.specs.Preorder.{paths_among}
 use Rattle.dt_tree.specs.Sound.{is_among, are_distinct, IsSoundBelow, IsSound}
 use Rattle.dt_tree.proofs.Places.{distinct_head, distinct_tail}
-use Rattle.dt_meaning.specs.Paths.{Path, same_path, is_listed}
-use Rattle.dt_meaning.specs.Edits.{Definition, definition, is_of, put}
-use Rattle.dt_meaning.specs.Resolved.{Resolved}
-use Rattle.dt_tree_builder.specs.Lists.{defined_at, below_child, defined_among, lists_of}
-use Rattle.dt_tree_builder.proofs.PathFacts.{next-names, or-false, same-is, not-both}
-use Rattle.dt_tree_builder.proofs.Standing.{listed-both}
-use Rattle.dt_tree_builder.proofs.TreeNodes.{map-map}
+use Rattle.dt_source.specs.TreeMeaning.Paths.{Path, same_path, is_listed}
+use Rattle.dt_source.specs.TreeMeaning.Edits.{Definition, definition, is_of, put}
+use Rattle.dt_source.specs.TreeMeaning.Resolved.{Resolved}
+use Rattle.dt_live.specs.Builder.Lists.{defined_at, below_child, defined_among, lists_of}
+use Rattle.dt_live.proofs.BuilderLemmas.PathFacts.{next-names, or-false, same-is, not-both}
+use Rattle.dt_live.proofs.BuilderLemmas.Standing.{listed-both}
+use Rattle.dt_live.proofs.BuilderLemmas.TreeNodes.{map-map}
 use Rattle.dt_live.specs.Private.Flattening.{with_path, with_values, with_siblings, with_tree}
 
 abbrev Entry : Type 0

@@ -2,7 +2,7 @@
 use Rattle.std.proofs.Common.{◌≡◌, ◌≢◌, inl, inr, ℕ, zero, suc, ◌<◌, ◌≤◌, Bool, true, false, not, ◌&&◌, ◌||◌, List, [], ◌∷◌, ◌++◌, Some, refl, sym, ap, ap₂, ◌∙◌, true≢false, arith}
 use Rattle.std.proofs.lemmas.Bool.{and_parts, cases_eq}
 use Rattle.dt_live.specs.declared.live_tree.NodeRow.{NodeRow}
-use Rattle.dt_meaning.specs.Paths.{Path, same_path, is_within}
+use Rattle.dt_source.specs.TreeMeaning.Paths.{Path, same_path, is_within}
 use Rattle.dt_live.specs.Rows.{Found, row_at, climb, path_of, stands_by, stands, IsGrown, IsNodeIndex}
 use Rattle.dt_live.proofs.PathTests.{same-is, within-itself, within-snoc, within-root, snoc-parts, snoc-some}
 

@@ -5,11 +5,11 @@ use Rattle.dt_tree.specs.Name.{are_names}
 use Rattle.dt_tree.specs.NodeData.{NodeData}
 use Rattle.dt_tree.specs.Preorder.{paths_among}
 use Rattle.dt_tree.specs.Sound.{IsSound}
-use Rattle.dt_meaning.specs.Paths.{Path}
-use Rattle.dt_meaning.specs.Edits.{Definition}
-use Rattle.dt_tree_builder.specs.Lists.{lists_of}
-use Rattle.dt_tree_builder.specs.Standing.{AreNodes, AreFollowed}
-use Rattle.dt_tree_builder.proofs.TreeNodes.{tree-nodes}
+use Rattle.dt_source.specs.TreeMeaning.Paths.{Path}
+use Rattle.dt_source.specs.TreeMeaning.Edits.{Definition}
+use Rattle.dt_live.specs.Builder.Lists.{lists_of}
+use Rattle.dt_live.specs.Builder.Standing.{AreNodes, AreFollowed}
+use Rattle.dt_live.proofs.BuilderLemmas.TreeNodes.{tree-nodes}
 use Rattle.dt_live.specs.declared.live_tree.LiveTree.{LiveTree}
 use Rattle.dt_live.specs.Rows.{IsLiveTree, path_of, state_of}
 use Rattle.dt_live.specs.ByRow.{has_all_rows, is_named}

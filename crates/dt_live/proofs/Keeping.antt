@@ -4,7 +4,7 @@ use Rattle.std.specs.Str.{bytes_eq}
 use Rattle.std.proofs.lemmas.Bool.{and_parts}
 use Rattle.std.proofs.lemmas.List.{length_push, length-set}
 use Rattle.dt_live.specs.declared.live_tree.NodeRow.{NodeRow}
-use Rattle.dt_meaning.specs.Paths.{Path, same_path, is_within, is_below}
+use Rattle.dt_source.specs.TreeMeaning.Paths.{Path, same_path, is_within, is_below}
 use Rattle.dt_live.specs.Rows.{Found, row_at, path_of, stands, IsGrown, IsNodeIndex, Kept}
 use Rattle.dt_live.proofs.PathTests.{same-itself}
 use Rattle.dt_live.proofs.Climbs.{stands-marked}

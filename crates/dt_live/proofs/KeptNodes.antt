@@ -1,7 +1,7 @@
 -- Reserved nodes are those at a reserved name right below the root, and all below them.
 use Rattle.std.proofs.Common.{◌≡◌, ℕ, zero, suc, List, [], ◌∷◌, ◌++◌, refl, sym, ap, ◌∙◌}
 use Rattle.dt_tree.specs.Phandle.{is_reserved, is_reserved_name}
-use Rattle.dt_meaning.specs.Paths.{Path}
+use Rattle.dt_source.specs.TreeMeaning.Paths.{Path}
 use Rattle.dt_live.specs.declared.live_tree.NodeRow.{NodeRow}
 use Rattle.dt_live.specs.Rows.{row_at, path_of, IsGrown}
 use Rattle.dt_live.proofs.Climbs.{path-step}

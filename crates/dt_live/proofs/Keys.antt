@@ -5,7 +5,7 @@ use Rattle.std.specs.List.{list_any, position}
 use Rattle.std.proofs.lemmas.Bool.{and_parts, and_from, eqb-true, eq-eqb}
 use Rattle.std.proofs.lemmas.List.{get_or-set_same, get_or-set_other, get_or_past}
 use Rattle.std.proofs.lemmas.Slice.Eq.{bytes_eq-Decides}
-use Rattle.dt_key.specs.declared.KeyName.{KeyName}
+use Rattle.dt_tree.specs.declared.key.KeyName.{KeyName}
 use Rattle.dt_live.specs.declared.index.IndexEntry.{IndexEntry}
 use Rattle.dt_live.specs.Index.{is_key, slot_of, absent}
 

@@ -1,6 +1,7 @@
 pub mod AllRows
 pub mod Behind
 pub mod BlankRows
+pub mod BuilderLemmas
 pub mod Climbs
 pub mod Each
 pub mod Empty
@@ -12,6 +13,7 @@ pub mod KidSteps
 pub mod LabelRows
 pub mod ListSteps
 pub mod LookUps
+pub mod MakingLemmas
 pub mod MakingNodes
 pub mod NodeRows
 pub mod NodesStanding
@@ -21,6 +23,7 @@ pub mod PathRuns
 pub mod PathTests
 pub mod PathText
 pub mod PathsDown
+pub mod PlacedLemmas
 pub mod PropertyRows
 pub mod Ranges
 pub mod Replaced

@@ -3,10 +3,10 @@ use Rattle.std.proofs.Common.{◌≡◌, ℕ, zero, suc, ◌≤◌, ◌<◌, tru
 use Rattle.std.specs.Str.{bytes_eq}
 use Rattle.std.proofs.lemmas.Bool.{and_parts, and_from}
 use Rattle.std.proofs.lemmas.Slice.Eq.{bytes_eq-Decides}
-use Rattle.dt_meaning.specs.MapOf.{value_in}
-use Rattle.dt_meaning.specs.Paths.{Path, same_path, is_listed}
-use Rattle.dt_meaning.specs.Edits.{is_of}
-use Rattle.dt_tree_builder.proofs.PathFacts.{same-is, same-itself}
+use Rattle.dt_source.specs.TreeMeaning.MapOf.{value_in}
+use Rattle.dt_source.specs.TreeMeaning.Paths.{Path, same_path, is_listed}
+use Rattle.dt_source.specs.TreeMeaning.Edits.{is_of}
+use Rattle.dt_live.proofs.BuilderLemmas.PathFacts.{same-is, same-itself}
 use Rattle.dt_live.specs.declared.live_tree.LiveTree.{LiveTree}
 use Rattle.dt_live.specs.declared.live_tree.PropertyRow.{PropertyRow}
 use Rattle.dt_live.specs.Rows.{IsNode, child_of, no_property, path_of, property_at, property_of, row_at, stands}

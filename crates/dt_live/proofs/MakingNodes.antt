@@ -4,18 +4,18 @@ use Rattle.std.specs.Prelude.{All, slice_index_or}
 use Rattle.std.proofs.lemmas.List.{get_or-map, get_or_default, length-map}
 use Rattle.dt_tree.specs.declared.property.Property.{Property}
 use Rattle.dt_tree.specs.NodeData.{NodeData}
-use Rattle.dt_meaning.specs.References.{held, preorder}
-use Rattle.dt_meaning.specs.Resolved.{Resolved}
+use Rattle.dt_source.specs.TreeMeaning.References.{held, preorder}
+use Rattle.dt_source.specs.TreeMeaning.Resolved.{Resolved}
 use Rattle.dt_live.specs.declared.live_tree.LiveTree.{LiveTree}
 use Rattle.dt_live.specs.declared.live_tree.NodeRow.{NodeRow}
 use Rattle.dt_live.specs.Rows.{IsNode, climb, node_path, path_of, row_at}
 use Rattle.dt_live.proofs.PathTests.{snoc-some}
-use Rattle.dt_tree_builder.specs.Lists.{defined_at, with_last}
-use Rattle.dt_tree_builder.specs.Builders.{built_lists, last_path}
-use Rattle.dt_tree_builder.specs.Private.Making.{IsMade}
-use Rattle.dt_tree_builder.specs.Standing.{AreNodes}
-use Rattle.dt_tree_builder.proofs.MakingWalk.{made-more, made-next, not-root, root-made, root-path, some-node}
-use Rattle.dt_tree_builder.proofs.Pushes.{IsNext}
+use Rattle.dt_live.specs.Builder.Lists.{defined_at, with_last}
+use Rattle.dt_live.specs.Builder.Builders.{built_lists, last_path}
+use Rattle.dt_live.specs.Builder.Private.Making.{IsMade}
+use Rattle.dt_live.specs.Builder.Standing.{AreNodes}
+use Rattle.dt_live.proofs.BuilderLemmas.MakingWalk.{made-more, made-next, not-root, root-made, root-path, some-node}
+use Rattle.dt_live.proofs.BuilderLemmas.Pushes.{IsNext}
 use Rattle.dt_live.proofs.BlankRows.{blank_row, row-read}
 
 -- these are the nodes of a tree, in the order of the walk

@@ -3,8 +3,8 @@ use Rattle.std.proofs.Common.{◌≡◌, ◌≢◌, inl, inr, ℕ, suc, ◌-◌,
 use Rattle.std.specs.List.{filter}
 use Rattle.std.proofs.lemmas.Bool.{and_parts, cases_eq, cases_lt}
 use Rattle.std.proofs.lemmas.List.{get_or-set_same, get_or-set_other, get_or_past, get_or_append_left, get_or_push, length_push, length-set}
-use Rattle.dt_meaning.specs.Paths.{Path, is_within, is_listed}
-use Rattle.dt_meaning.specs.Edits.{State, Definition, Label, with_node, without_node}
+use Rattle.dt_source.specs.TreeMeaning.Paths.{Path, is_within, is_listed}
+use Rattle.dt_source.specs.TreeMeaning.Edits.{State, Definition, Label, with_node, without_node}
 use Rattle.dt_live.specs.declared.live_tree.NodeRow.{NodeRow}
 use Rattle.dt_live.specs.declared.live_tree.PropertyRow.{PropertyRow}
 use Rattle.dt_live.specs.declared.live_tree.LabelRow.{LabelRow}

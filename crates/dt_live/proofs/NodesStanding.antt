@@ -2,16 +2,16 @@
 use Rattle.std.proofs.Common.{◌≡◌, ℕ, zero, suc, ◌≤◌, Bool, true, false, not, ◌||◌, List, [], ◌∷◌, ◌++◌, if◌then◌else◌, refl, sym, ap, ◌∙◌, arith}
 use Rattle.std.specs.List.{list_any}
 use Rattle.std.proofs.lemmas.Bool.{and_parts, and_from}
-use Rattle.dt_meaning.specs.Paths.{Path, same_path, is_listed}
-use Rattle.dt_meaning.specs.Resolved.{is_too_deep}
+use Rattle.dt_source.specs.TreeMeaning.Paths.{Path, same_path, is_listed}
+use Rattle.dt_source.specs.TreeMeaning.Resolved.{is_too_deep}
 use Rattle.dt_live.specs.declared.live_tree.NodeRow.{NodeRow}
 use Rattle.dt_live.specs.Rows.{Found, row_at, path_of, stands, standing, IsGrown, IsNodeIndex}
 use Rattle.dt_live.proofs.Climbs.{one-node, path-step, stands-step}
 use Rattle.dt_live.proofs.PathTests.{snoc-parts, snoc-some}
 use Rattle.dt_live.proofs.StandingProperties.{listed-standing, standing-listed}
-use Rattle.dt_tree_builder.specs.Standing.{are_apart, AreNodes}
-use Rattle.dt_tree_builder.proofs.Standing.{apart-more, listed-both}
-use Rattle.dt_tree_builder.proofs.PathFacts.{not-true, or-right}
+use Rattle.dt_live.specs.Builder.Standing.{are_apart, AreNodes}
+use Rattle.dt_live.proofs.BuilderLemmas.Standing.{apart-more, listed-both}
+use Rattle.dt_live.proofs.BuilderLemmas.PathFacts.{not-true, or-right}
 
 module _ (rows : List NodeRow) (index : Found) (grown : IsGrown rows) (indexed : IsNodeIndex rows index) where
   abbrev nodes_to : ℕ → List Path

@@ -2,14 +2,14 @@
 use Rattle.std.proofs.Common.{◌≡◌, inl, inr, ℕ, zero, suc, ◌+◌, ◌-◌, ◌≤◌, ◌<◌, true, ◌||◌, [], ◌∷◌, ◌++◌, length, take, refl, sym, ap, ◌∙◌, subst, length-append, arith}
 use Rattle.std.proofs.lemmas.Bool.{cases_eq, cases_lt}
 use Rattle.std.proofs.lemmas.List.{length-take-le}
-use Rattle.dt_meaning.specs.Paths.{Path, same_path, is_within}
+use Rattle.dt_source.specs.TreeMeaning.Paths.{Path, same_path, is_within}
 use Rattle.dt_live.specs.declared.live_tree.LiveTree.{LiveTree}
 use Rattle.dt_live.specs.Rows.{IsNode, path_of, row_at}
 use Rattle.dt_live.proofs.Climbs.{path-step}
 use Rattle.dt_live.proofs.PathTests.{snoc-parts, within-itself, within-snoc}
 use Rattle.dt_live.specs.Flattened.{Lent, IsWhole, IsOrdered}
 use Rattle.dt_live.specs.Runs.{IsRun}
-use Rattle.dt_tree_builder.proofs.PathFacts.{within-is}
+use Rattle.dt_live.proofs.BuilderLemmas.PathFacts.{within-is}
 use Rattle.dt_live.proofs.PathRuns.{take-keeps, within-by}
 use Rattle.dt_live.proofs.RunsBelow.{follows, reached}
 

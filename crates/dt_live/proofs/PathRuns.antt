@@ -4,9 +4,9 @@ use Rattle.std.specs.Str.{bytes_eq}
 use Rattle.std.proofs.lemmas.Bool.{and_from}
 use Rattle.std.proofs.lemmas.List.{take-append-drop, length-take-le}
 use Rattle.std.proofs.lemmas.Slice.Eq.{bytes_eq-Decides}
-use Rattle.dt_meaning.specs.Paths.{Path, same_path, is_within}
-use Rattle.dt_tree_builder.specs.Standing.{Follows}
-use Rattle.dt_tree_builder.proofs.PathFacts.{Within, within-is}
+use Rattle.dt_source.specs.TreeMeaning.Paths.{Path, same_path, is_within}
+use Rattle.dt_live.specs.Builder.Standing.{Follows}
+use Rattle.dt_live.proofs.BuilderLemmas.PathFacts.{Within, within-is}
 use Rattle.dt_live.proofs.PathTests.{within-snoc}
 
 -- ---- a path and what is below it

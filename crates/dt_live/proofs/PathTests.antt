@@ -3,7 +3,7 @@ use Rattle.std.proofs.Common.{◌≡◌, ◌≢◌, ℕ, Bool, true, false, ◌&
 use Rattle.std.specs.Str.{bytes_eq}
 use Rattle.std.proofs.lemmas.Bool.{and_parts, and_from}
 use Rattle.std.proofs.lemmas.Slice.Eq.{bytes_eq-Decides}
-use Rattle.dt_meaning.specs.Paths.{Path, same_path, is_within}
+use Rattle.dt_source.specs.TreeMeaning.Paths.{Path, same_path, is_within}
 
 pub same-itself : (p : Path) → same_path p p ≡ true
 same-itself [] = refl

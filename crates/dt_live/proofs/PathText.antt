@@ -2,7 +2,7 @@
 use Rattle.std.proofs.Common.{◌≡◌, ℕ, zero, suc, ◌+◌, ◌-◌, ◌^◌, ◌<◌, ◌≤◌, min, List, [], ◌∷◌, ◌++◌, length, get_or, refl, sym, ap, ◌∙◌, append_assoc, append-nil, length-append, arith}
 use Rattle.std.proofs.lemmas.List.{get_or_default}
 use Rattle.dt_tree.specs.Path.{behind_slashes, path_text}
-use Rattle.dt_meaning.specs.Paths.{Path}
+use Rattle.dt_source.specs.TreeMeaning.Paths.{Path}
 use Rattle.dt_live.specs.declared.live_tree.NodeRow.{NodeRow}
 use Rattle.dt_live.specs.Rows.{no_row, row_at, path_of, IsGrown}
 use Rattle.dt_live.proofs.Climbs.{path-step}

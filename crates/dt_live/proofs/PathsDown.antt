@@ -6,7 +6,7 @@ use Rattle.dt_tree.specs.Path.{is_slash, path_names}
 use Rattle.std.specs.Option.{option_and_then}
 use Rattle.std.proofs.lemmas.Bool.{and_parts, eqb-true}
 use Rattle.std.proofs.lemmas.List.{at_drop_more, at_drop_all, append-nil, take_all}
-use Rattle.dt_meaning.specs.Paths.{Path, same_path, is_listed}
+use Rattle.dt_source.specs.TreeMeaning.Paths.{Path, same_path, is_listed}
 use Rattle.dt_live.specs.declared.live_tree.NodeRow.{NodeRow}
 use Rattle.dt_live.specs.Private.Following.{node_behind}
 use Rattle.dt_live.specs.Rows.{Found, row_at, path_of, stands, standing, IsGrown, IsNodeIndex}

@@ -2,7 +2,7 @@
 use Rattle.std.proofs.Common.{◌≡◌, ℕ, zero, suc, ◌<◌, Bool, true, false, ◌&&◌, List, [], ◌∷◌, ◌++◌, length, get_or, refl, sym, ap, ◌∙◌}
 use Rattle.std.specs.Str.{bytes_eq}
 use Rattle.std.proofs.lemmas.List.{get_or_default}
-use Rattle.dt_meaning.specs.Paths.{Path, same_path}
+use Rattle.dt_source.specs.TreeMeaning.Paths.{Path, same_path}
 use Rattle.dt_live.specs.declared.live_tree.NodeRow.{NodeRow}
 use Rattle.dt_live.specs.Rows.{no_row, row_at, path_of, IsGrown}
 use Rattle.dt_live.proofs.Climbs.{path-step}

@@ -4,9 +4,9 @@ use Rattle.std.proofs.lemmas.List.{map-append}
 use Rattle.dt_tree.specs.declared.property.Property.{Property}
 use Rattle.dt_tree.specs.NodeData.{Siblings, none, more, NodeData}
 use Rattle.dt_tree.specs.Preorder.{paths_among}
-use Rattle.dt_meaning.specs.Paths.{Path}
-use Rattle.dt_meaning.specs.Edits.{Definition}
-use Rattle.dt_tree_builder.specs.Lists.{defined_at, below_child, defined_among, lists_of}
+use Rattle.dt_source.specs.TreeMeaning.Paths.{Path}
+use Rattle.dt_source.specs.TreeMeaning.Edits.{Definition}
+use Rattle.dt_live.specs.Builder.Lists.{defined_at, below_child, defined_among, lists_of}
 use Rattle.dt_live.specs.declared.live_tree.PropertyRow.{PropertyRow}
 use Rattle.dt_live.specs.Rows.{property_at}
 use Rattle.dt_live.specs.Flattened.{Lent, nodes_from}

@@ -3,11 +3,11 @@ use Rattle.std.proofs.Common.{◌≡◌, ℕ, zero, suc, Bool, true, false, not,
 use Rattle.std.specs.List.{flat_map}
 use Rattle.std.proofs.lemmas.Bool.{and_parts}
 use Rattle.dt_tree.specs.Name.{is_name}
-use Rattle.dt_meaning.specs.Paths.{Path, same_path, is_listed}
-use Rattle.dt_meaning.specs.Edits.{Definition}
-use Rattle.dt_meaning.specs.References.{held}
-use Rattle.dt_tree_builder.specs.Standing.{are_apart}
-use Rattle.dt_tree_builder.proofs.PathFacts.{or-false, same-is}
+use Rattle.dt_source.specs.TreeMeaning.Paths.{Path, same_path, is_listed}
+use Rattle.dt_source.specs.TreeMeaning.Edits.{Definition}
+use Rattle.dt_source.specs.TreeMeaning.References.{held}
+use Rattle.dt_live.specs.Builder.Standing.{are_apart}
+use Rattle.dt_live.proofs.BuilderLemmas.PathFacts.{or-false, same-is}
 use Rattle.dt_live.proofs.Each.{Each, each-append, each-more}
 
 pub apart-drop : (k : ℕ) (ps : List Path) → are_apart ps ≡ true → are_apart (drop k ps) ≡ true

@@ -4,10 +4,10 @@ use Rattle.std.specs.Prelude.{nat_le}
 use Rattle.std.specs.List.{filter}
 use Rattle.std.proofs.lemmas.Bool.{cases_lt, le-leb, lt-leb}
 use Rattle.std.proofs.lemmas.List.{length-map}
-use Rattle.dt_meaning.specs.Paths.{Path, same_path, is_within, is_below}
-use Rattle.dt_tree_builder.specs.Standing.{AreFollowed, Follows}
-use Rattle.dt_tree_builder.proofs.InTurn.{followed-at}
-use Rattle.dt_tree_builder.proofs.PathFacts.{Within}
+use Rattle.dt_source.specs.TreeMeaning.Paths.{Path, same_path, is_within, is_below}
+use Rattle.dt_live.specs.Builder.Standing.{AreFollowed, Follows}
+use Rattle.dt_live.proofs.BuilderLemmas.InTurn.{followed-at}
+use Rattle.dt_live.proofs.BuilderLemmas.PathFacts.{Within}
 use Rattle.dt_live.specs.declared.live_tree.LiveTree.{LiveTree}
 use Rattle.dt_live.specs.declared.live_tree.PropertyRow.{PropertyRow}
 use Rattle.dt_live.specs.Rows.{IsNode, no_property, path_of, property_at, row_at}

@@ -6,8 +6,8 @@ use Rattle.std.proofs.lemmas.List.Elements.{filter-append}
 use Rattle.std.specs.Str.{bytes_eq}
 use Rattle.std.proofs.lemmas.Slice.Eq.{bytes_eq-Decides}
 use Rattle.dt_live.specs.declared.live_tree.PropertyRow.{PropertyRow}
-use Rattle.dt_meaning.specs.Paths.{Path, same_path, is_listed}
-use Rattle.dt_meaning.specs.Edits.{Definition, definition, is_of, put}
+use Rattle.dt_source.specs.TreeMeaning.Paths.{Path, same_path, is_listed}
+use Rattle.dt_source.specs.TreeMeaning.Edits.{Definition, definition, is_of, put}
 use Rattle.dt_live.specs.Rows.{standing, standing_properties, valued, property_at}
 use Rattle.dt_live.proofs.PathTests.{same-is, same-itself}
 

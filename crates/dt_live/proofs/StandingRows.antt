@@ -7,15 +7,15 @@ use Rattle.std.proofs.lemmas.List.{map-append}
 use Rattle.std.proofs.lemmas.List.Elements.{filter-append}
 use Rattle.std.proofs.lemmas.Grind.{flat_map-append}
 use Rattle.std.proofs.Math.Seq.{take-suc}
-use Rattle.dt_meaning.specs.Paths.{Path, same_path, name_below}
-use Rattle.dt_meaning.specs.Edits.{Definition, definition}
+use Rattle.dt_source.specs.TreeMeaning.Paths.{Path, same_path, name_below}
+use Rattle.dt_source.specs.TreeMeaning.Edits.{Definition, definition}
 use Rattle.dt_live.specs.declared.live_tree.NodeRow.{NodeRow}
 use Rattle.dt_live.specs.declared.live_tree.PropertyRow.{PropertyRow}
 use Rattle.dt_live.specs.Rows.{Found, row_at, path_of, stands, standing, standing_properties, valued, property_at, no_property, IsGrown, IsNodeIndex}
 use Rattle.dt_live.proofs.Climbs.{one-node, path-step, stands-step}
 use Rattle.dt_live.proofs.PathTests.{same-itself, same-is}
 use Rattle.dt_live.proofs.StandingProperties.{standing_properties-append}
-use Rattle.dt_tree_builder.proofs.Orders.{no-below}
+use Rattle.dt_live.proofs.BuilderLemmas.Orders.{no-below}
 use Rattle.dt_live.specs.declared.preorder.properties.NodeProperty.{NodeProperty}
 use Rattle.dt_live.specs.Private.Walks.{children_to, properties_to, node_property_of, node_property_at}
 use Rattle.dt_live.proofs.Each.{Each, each-append, each-one}

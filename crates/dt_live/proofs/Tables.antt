@@ -2,8 +2,8 @@
 use Rattle.std.proofs.Common.{◌≡◌, inl, inr, ℕ, suc, ◌<◌, ◌≤◌, true, false, not, List, [], ◌∷◌, ◌++◌, length, slice_set, Some, None, IsSome, if◌then◌else◌, unwrap_or, sym, ap, ap₂, ◌∙◌, arith}
 use Rattle.std.proofs.lemmas.Bool.{and_parts}
 use Rattle.std.proofs.lemmas.List.{length_push, length-set}
-use Rattle.dt_meaning.specs.Paths.{is_within}
-use Rattle.dt_meaning.specs.Edits.{definition, with_property, without_property}
+use Rattle.dt_source.specs.TreeMeaning.Paths.{is_within}
+use Rattle.dt_source.specs.TreeMeaning.Edits.{definition, with_property, without_property}
 use Rattle.dt_live.specs.declared.live_tree.NodeRow.{NodeRow}
 use Rattle.dt_live.specs.declared.live_tree.PropertyRow.{PropertyRow}
 use Rattle.dt_live.specs.declared.live_tree.LabelRow.{LabelRow}

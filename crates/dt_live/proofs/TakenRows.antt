@@ -2,7 +2,7 @@
 use Rattle.std.proofs.Common.{◌≡◌, ℕ, zero, suc, ◌≤◌, Bool, true, false, not, ◌&&◌, ◌||◌, List, [], ◌∷◌, ◌++◌, length, slice_set, refl, sym, ap, ap₂, ◌∙◌, true≢false, arith}
 use Rattle.std.proofs.lemmas.Bool.{and_parts}
 use Rattle.std.proofs.lemmas.List.{length-set}
-use Rattle.dt_meaning.specs.Paths.{Path, same_path, is_within, is_listed}
+use Rattle.dt_source.specs.TreeMeaning.Paths.{Path, same_path, is_within, is_listed}
 use Rattle.dt_live.specs.declared.live_tree.NodeRow.{NodeRow}
 use Rattle.dt_live.specs.Rows.{Found, Taken, row_at, path_of, stands, standing, IsGrown, IsNodeIndex}
 use Rattle.dt_live.proofs.Climbs.{path-step, stands-step}

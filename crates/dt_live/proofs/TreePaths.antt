@@ -9,12 +9,12 @@ use Rattle.dt_tree.specs.Name.{is_name, are_names}
 use Rattle.dt_tree.specs.NodeData.{Siblings, none, more, NodeData, child_names, property_names}
 use Rattle.dt_tree.specs.Preorder.{paths_among}
 use Rattle.dt_tree.specs.Sound.{IsSound, IsSoundBelow}
-use Rattle.dt_meaning.specs.Paths.{Path}
-use Rattle.dt_meaning.specs.Edits.{Definition}
-use Rattle.dt_tree_builder.specs.Lists.{defined_at, below_child, defined_among, lists_of}
-use Rattle.dt_tree_builder.specs.Standing.{AreFollowed, Follows}
-use Rattle.dt_tree_builder.proofs.PathFacts.{Within}
-use Rattle.dt_tree_builder.proofs.TreeNodes.{below-root, paths-more, paths_below}
+use Rattle.dt_source.specs.TreeMeaning.Paths.{Path}
+use Rattle.dt_source.specs.TreeMeaning.Edits.{Definition}
+use Rattle.dt_live.specs.Builder.Lists.{defined_at, below_child, defined_among, lists_of}
+use Rattle.dt_live.specs.Builder.Standing.{AreFollowed, Follows}
+use Rattle.dt_live.proofs.BuilderLemmas.PathFacts.{Within}
+use Rattle.dt_live.proofs.BuilderLemmas.TreeNodes.{below-root, paths-more, paths_below}
 use Rattle.dt_live.specs.ByRow.{is_named}
 
 -- ---- one after the other

@@ -4,8 +4,8 @@ use Rattle.std.specs.List.{All, list_all}
 use Rattle.std.proofs.lemmas.Bool.{and_parts, and_from}
 use Rattle.std.proofs.lemmas.List.{map-append}
 use Rattle.std.proofs.lemmas.List.Elements.{All-head, All-tail}
-use Rattle.dt_meaning.specs.Paths.{Path}
-use Rattle.dt_meaning.specs.Edits.{Definition, definition}
+use Rattle.dt_source.specs.TreeMeaning.Paths.{Path}
+use Rattle.dt_source.specs.TreeMeaning.Edits.{Definition, definition}
 use Rattle.dt_live.specs.declared.live_tree.NodeRow.{NodeRow}
 use Rattle.dt_live.specs.declared.live_tree.PropertyRow.{PropertyRow}
 use Rattle.dt_live.specs.declared.live_tree.LabelRow.{LabelRow}

@@ -5,8 +5,8 @@ use Rattle.std.proofs.lemmas.Bool.{and_parts, and_from}
 use Rattle.std.proofs.lemmas.List.{get_or_default}
 use Rattle.std.proofs.lemmas.List.Folds.{list_all-append, list_all-map}
 use Rattle.dt_tree.specs.Name.{is_name, are_names}
-use Rattle.dt_meaning.specs.Paths.{Path, same_path, is_listed}
-use Rattle.dt_tree_builder.proofs.PathFacts.{same-is}
+use Rattle.dt_source.specs.TreeMeaning.Paths.{Path, same_path, is_listed}
+use Rattle.dt_live.proofs.BuilderLemmas.PathFacts.{same-is}
 use Rattle.dt_live.specs.declared.live_tree.LiveTree.{LiveTree}
 use Rattle.dt_live.specs.declared.live_tree.NodeRow.{NodeRow}
 use Rattle.dt_live.specs.declared.live_tree.PropertyRow.{PropertyRow}

@@ -2,7 +2,7 @@
 use Rattle.std.specs.Prelude.{◌≡◌, ℕ, Bool, true, not, ◌&&◌, List, [], Option, Some, None, is_some}
 use Rattle.std.specs.List.{list_all}
 use Rattle.dt_tree.specs.Name.{is_name}
-use Rattle.dt_meaning.specs.Edits.{Definition, definition}
+use Rattle.dt_source.specs.TreeMeaning.Edits.{Definition, definition}
 use Rattle.dt_live.specs.declared.live_tree.LiveTree.{LiveTree}
 use Rattle.dt_live.specs.declared.live_tree.NodeRow.{NodeRow}
 use Rattle.dt_live.specs.declared.live_tree.PropertyRow.{PropertyRow}

@@ -3,10 +3,10 @@ use Rattle.std.specs.Prelude.{◌≡◌, ◌+◌, ◌≤◌, ◌<◌, ℕ, zero,
 use denote.Ref.{Bor}
 use Rattle.dt_tree.specs.Name.{is_name}
 use Rattle.dt_tree.specs.NodeData.{NodeData}
-use Rattle.dt_meaning.specs.Edits.{Definition, definition}
-use Rattle.dt_meaning.specs.Resolved.{Resolved}
-use Rattle.dt_tree_builder.specs.Lists.{lists_of}
-use Rattle.dt_tree_builder.specs.Standing.{AreFollowed, AreNodes}
+use Rattle.dt_source.specs.TreeMeaning.Edits.{Definition, definition}
+use Rattle.dt_source.specs.TreeMeaning.Resolved.{Resolved}
+use Rattle.dt_live.specs.Builder.Lists.{lists_of}
+use Rattle.dt_live.specs.Builder.Standing.{AreFollowed, AreNodes}
 use Rattle.dt_live.specs.declared.live_tree.LiveTree.{LiveTree}
 use Rattle.dt_live.specs.Rows.{IsLiveTree, path_of, stands, property_at, state_of}
 

@@ -2,7 +2,7 @@
 use Rattle.std.specs.Prelude.{◌≡◌, ℕ, Bool, ◌&&◌, ◌==◌, List, Option, None, Some, if◌then◌else◌, slice_index_or, unwrap_or}
 use Rattle.std.specs.List.{position_or_len}
 use Rattle.std.specs.Str.{bytes_eq}
-use Rattle.dt_key.specs.declared.KeyName.{KeyName}
+use Rattle.dt_tree.specs.declared.key.KeyName.{KeyName}
 use Rattle.dt_live.specs.declared.index.IndexEntry.{IndexEntry}
 use Rattle.dt_live.specs.declared.index.Index.{Index}
 

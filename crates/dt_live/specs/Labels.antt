@@ -1,9 +1,9 @@
 -- The labels of a live tree's nodes (Devicetree Specification v0.4, section 6.2).
 use Rattle.std.specs.Prelude.{◌≡◌, ℕ, List, map, MatchOption, Option, None, Some, Result, Err}
 use denote.Ref.{Bor}
-use Rattle.dt_meaning.specs.Paths.{Path}
-use Rattle.dt_meaning.specs.Edits.{State, label_path}
-use Rattle.dt_meaning.specs.Statements.{Fault, DuplicateLabel, give_label, give_labels}
+use Rattle.dt_source.specs.TreeMeaning.Paths.{Path}
+use Rattle.dt_source.specs.TreeMeaning.Edits.{State, label_path}
+use Rattle.dt_source.specs.TreeMeaning.Statements.{Fault, DuplicateLabel, give_label, give_labels}
 use Rattle.dt_live.specs.declared.live_tree.LiveTree.{LiveTree}
 use Rattle.dt_live.specs.Rows.{node_path, state_of}
 

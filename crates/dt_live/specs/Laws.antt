@@ -2,8 +2,8 @@
 use Rattle.std.specs.Prelude.{◌≡◌, ◌+◌, ◌-◌, ◌≤◌, ◌<◌, ℕ, true, false, List, [], drop, length, map, take, None, Some, MatchOption}
 use Rattle.std.specs.List.{filter, list_all}
 use Rattle.dt_tree.specs.Name.{are_names}
-use Rattle.dt_meaning.specs.MapOf.{value_in}
-use Rattle.dt_meaning.specs.Paths.{is_below, is_listed, is_within}
+use Rattle.dt_source.specs.TreeMeaning.MapOf.{value_in}
+use Rattle.dt_source.specs.TreeMeaning.Paths.{is_below, is_listed, is_within}
 use Rattle.dt_live.specs.declared.live_tree.LiveTree.{LiveTree}
 use Rattle.dt_live.specs.Rows.{IsLiveTree, IsNode, child_of, child_path, node_path, property_at, property_of, row_at, state_of}
 use Rattle.dt_live.specs.ByRow.{defined_by, has_all_rows, is_named, row_property}

@@ -1,8 +1,11 @@
+pub mod Builder
 pub mod ByRow
 pub mod Flattened
 pub mod Index
 pub mod Labels
 pub mod Laws
+pub mod Making
+pub mod Placed
 pub mod Preorder
 pub mod Private
 pub mod Rows

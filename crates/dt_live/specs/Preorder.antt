@@ -1,8 +1,8 @@
 -- What a property in preorder stands for (Devicetree Specification v0.4, section 6.3).
 use Rattle.std.specs.Prelude.{◌≡◌, ◌==◌, ℕ, true, List, map, take}
 use Rattle.std.specs.List.{prefix_len}
-use Rattle.dt_meaning.specs.Edits.{Definition, definition}
-use Rattle.dt_meaning.specs.References.{in_order, preorder}
+use Rattle.dt_source.specs.TreeMeaning.Edits.{Definition, definition}
+use Rattle.dt_source.specs.TreeMeaning.References.{in_order, preorder}
 use Rattle.dt_live.specs.declared.live_tree.LiveTree.{LiveTree}
 use Rattle.dt_live.specs.Rows.{is_standing, node_path, state_of}
 use Rattle.dt_live.specs.declared.preorder.properties.NodeProperty.{NodeProperty}

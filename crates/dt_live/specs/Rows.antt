@@ -1,7 +1,7 @@
 -- What the rows of a live tree stand for.
 use Rattle.std.specs.Prelude.{◌≡◌, ℕ, zero, suc, ◌<◌, ◌≤◌, Bool, true, false, not, ◌&&◌, List, [], ◌∷◌, ◌++◌, length, Option, Some, None, IsSome, if◌then◌else◌, slice_index_or, MatchOption}
-use Rattle.dt_meaning.specs.Paths.{Path, is_below, is_within}
-use Rattle.dt_meaning.specs.Edits.{Definition, definition, Label, labelled_at, State, has_node, with_node, with_property, without_node}
+use Rattle.dt_source.specs.TreeMeaning.Paths.{Path, is_below, is_within}
+use Rattle.dt_source.specs.TreeMeaning.Edits.{Definition, definition, Label, labelled_at, State, has_node, with_node, with_property, without_node}
 use Rattle.dt_live.specs.declared.live_tree.NodeRow.{NodeRow}
 use Rattle.dt_live.specs.declared.live_tree.PropertyRow.{PropertyRow}
 use Rattle.dt_live.specs.declared.live_tree.LabelRow.{LabelRow}

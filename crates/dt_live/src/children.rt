@@ -1,6 +1,6 @@
 //! The children of nodes.
 ghost use Rattle.std.specs.Prelude.{◌≡◌, ◌<◌, ◌==◌, not, true, IfOk, OnOk};
-ghost use Rattle.dt_meaning.specs.Paths.{Path};
+ghost use Rattle.dt_source.specs.TreeMeaning.Paths.{Path};
 ghost use Rattle.dt_live.specs.ByRow.{KeepsRows};
 ghost use Rattle.dt_live.specs.Index.{IsSetAt};
 ghost use Rattle.dt_live.specs.Rows.{AddsNode, HasSameChildStamps, HasSamePropertyStamps, IsLiveTree, IsKept, IsNode, IsTaken, RemovesNode, child_of, child_path, child_stamp, is_standing, node_path};

@@ -1,7 +1,7 @@
 //! A tree as rows.
 ghost use Rattle.std.specs.Prelude.{◌≡◌, true, IfOk, OnOk};
-ghost use Rattle.dt_meaning.specs.Edits.{empty};
-ghost use Rattle.dt_meaning.specs.Paths.{Path};
+ghost use Rattle.dt_source.specs.TreeMeaning.Edits.{empty};
+ghost use Rattle.dt_source.specs.TreeMeaning.Paths.{Path};
 ghost use Rattle.dt_live.specs.ByRow.{KeepsRows, has_all_rows};
 ghost use Rattle.dt_live.specs.Rows.{HasSameNodes, IsLiveTree, IsKept, IsNode, is_standing, node_path, state_of};
 ghost use Rattle.dt_live.specs.Flattened.{IsFlattened, lists};

@@ -2,7 +2,7 @@
 ghost use Rattle.std.specs.Prelude.{◌≡◌, length};
 ghost use Rattle.indexmap.specs.IndexSet.{index_set_len};
 
-use dt_key::KeyName;
+use dt_tree::key::KeyName;
 use indexmap::IndexSet;
 use std::hash::RandomState;
 

@@ -3,7 +3,7 @@ ghost use Rattle.std.specs.Prelude.{◌≡◌, ◌+◌, ◌<◌, ℕ, List, None
 ghost use Rattle.dt_live.specs.Index.{DefinesRow, IsSetAt, SetsRow, absent, entry_of, row_of, stamp_of, slot_of};
 
 use crate::index::{Index, IndexEntry};
-use dt_key::KeyName;
+use dt_tree::key::KeyName;
 use indexmap::IndexSet;
 use std::alloc::{AllocError, Global};
 use std::hash::RandomState;

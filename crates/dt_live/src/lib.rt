@@ -1,9 +1,10 @@
 //! The live tree: rows of nodes, properties and labels in order of definition, with single edits, the preorder of its nodes, and
 //! the flattening of a tree into such rows.
 //!
-//! What an edit and the order mean is said by `dt_meaning`: the Devicetree Specification v0.4, section 6.3.
+//! What an edit and the order mean is said by `dt_source::tree_meaning`: the Devicetree Specification v0.4, section 6.3.
 #![tactic(auto)]
 
+pub mod builder;
 mod children;
 mod flattening;
 mod following;
@@ -12,8 +13,10 @@ mod keyed;
 mod labels;
 mod laws;
 mod live_tree;
+pub mod making;
 mod path_text;
 mod paths;
+pub mod placed;
 mod preorder;
 mod properties;
 mod reserved;

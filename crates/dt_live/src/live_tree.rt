@@ -1,6 +1,6 @@
 //! A live tree: tables of rows in order of definition, and an index of each.
 ghost use Rattle.std.specs.Prelude.{◌≡◌, ◌+◌, ◌-◌, ◌^◌, true, IfSome, IsNone, IsSome};
-ghost use Rattle.dt_meaning.specs.Edits.{empty};
+ghost use Rattle.dt_source.specs.TreeMeaning.Edits.{empty};
 ghost use Rattle.dt_live.specs.ByRow.{has_all_rows};
 ghost use Rattle.dt_live.specs.Rows.{HasSameChildStamps, HasSameNodes, HasSamePropertyStamps, IsLiveTree, IsNode, IsStamped, IsUnbegun, is_standing, state_of};
 

@@ -1,7 +1,7 @@
 //! The text of a node's path, name by name.
 ghost use Rattle.std.specs.Prelude.{◌≡◌, ◌≤◌, ◌-◌, ◌^◌, ◌∷◌, ◌++◌, [], OnOk, length, min};
 ghost use Rattle.dt_tree.specs.Path.{behind_slashes, path_text};
-ghost use Rattle.dt_meaning.specs.Paths.{same_path};
+ghost use Rattle.dt_source.specs.TreeMeaning.Paths.{same_path};
 ghost use Rattle.dt_live.specs.Rows.{IsGrown, path_of};
 
 use crate::live_tree::NodeRow;

@@ -1,6 +1,6 @@
 //! The properties of nodes.
 ghost use Rattle.std.specs.Prelude.{◌≡◌, ◌==◌, not, true, IfOk, OnOk};
-ghost use Rattle.dt_meaning.specs.Edits.{without_property};
+ghost use Rattle.dt_source.specs.TreeMeaning.Edits.{without_property};
 ghost use Rattle.dt_live.specs.ByRow.{KeepsRows};
 ghost use Rattle.dt_live.specs.Index.{IsSetAt};
 ghost use Rattle.dt_live.specs.Rows.{HasSameChildStamps, HasSameNodes, HasSamePropertyStamps, IsLiveTree, IsNode, SetsProperty, is_standing, node_path, property_stamp, property_of, state_of};

@@ -5,24 +5,24 @@ use Rattle.std.specs.List.{filter}
 use Rattle.dt_tree.specs.Steps.{then_do, fold}
 use Rattle.dt_tree.specs.PathMap.{path_map, tree_map}
 use Rattle.dt_tree.specs.TreeData.{TreeData, IsTree, is_reserve, tree_data}
-use Rattle.dt_meaning.specs.MapOf.{map_of}
+use Rattle.dt_source.specs.TreeMeaning.MapOf.{map_of}
 use Rattle.dt_overlay.specs.Applied.{IsAppliedWithin}
 use Rattle.dt_overlay.specs.Private.Applying.{IsRoot, IsRootOrTooLong}
 use Rattle.dt_overlay.proofs.Sizes.{live-longer}
 use Rattle.dt_tree.specs.NodeData.{NodeData}
-use Rattle.dt_meaning.specs.Names.{symbols_name}
-use Rattle.dt_meaning.specs.Paths.{same_path}
-use Rattle.dt_meaning.specs.Resolved.{Resolved}
-use Rattle.dt_tree_builder.specs.Lists.{lists_of}
-use Rattle.dt_tree_builder.proofs.Walks.{filter-all}
+use Rattle.dt_source.specs.TreeMeaning.Names.{symbols_name}
+use Rattle.dt_source.specs.TreeMeaning.Paths.{same_path}
+use Rattle.dt_source.specs.TreeMeaning.Resolved.{Resolved}
+use Rattle.dt_live.specs.Builder.Lists.{lists_of}
+use Rattle.dt_live.proofs.BuilderLemmas.Walks.{filter-all}
 use Rattle.dt_live.specs.declared.live_tree.LiveTree.{LiveTree}
-use Rattle.dt_tree_builder.specs.Sizes.{size_in}
+use Rattle.dt_live.specs.Builder.Sizes.{size_in}
 use Rattle.dt_live.specs.Flattened.{IsWhole, Lent, lists}
-use Rattle.dt_fixup.specs.declared.error.OverlayError.{OverlayError}
-use Rattle.dt_fixup.specs.OverlayFault.{IsFault}
-use Rattle.dt_overlay_meaning.specs.Applied.{overlay_result, with_fragment, with_symbols}
-use Rattle.dt_overlay_meaning.specs.Shifted.{Value, fragments, shifted_overlay}
-use Rattle.dt_overlay_meaning.specs.Fault.{Fault}
+use Rattle.dt_overlay.specs.declared.fixup.error.OverlayError.{OverlayError}
+use Rattle.dt_overlay.specs.Fixup.OverlayFault.{IsFault}
+use Rattle.dt_source.specs.OverlayMeaning.Applied.{overlay_result, with_fragment, with_symbols}
+use Rattle.dt_source.specs.OverlayMeaning.Shifted.{Value, fragments, shifted_overlay}
+use Rattle.dt_source.specs.OverlayMeaning.Fault.{Fault}
 use Rattle.dt_overlay.specs.Private.Symbols.{applied_over, symbols_of, with_all}
 use Rattle.dt_overlay.proofs.Folded.{fault-then}
 use Rattle.dt_overlay.proofs.Shallows.{IsShallow, fold-shallow, symbols-shallow}

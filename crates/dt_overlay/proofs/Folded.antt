@@ -4,20 +4,20 @@ use Rattle.std.specs.Prelude.{Result, option_map}
 use Rattle.std.proofs.Math.Seq.{take_all}
 use Rattle.dt_tree.specs.Steps.{then_do, fold}
 use Rattle.dt_tree.specs.Name.{are_names}
-use Rattle.dt_meaning.specs.Paths.{Path}
-use Rattle.dt_meaning.specs.Resolved.{Resolved}
+use Rattle.dt_source.specs.TreeMeaning.Paths.{Path}
+use Rattle.dt_source.specs.TreeMeaning.Resolved.{Resolved}
 use Rattle.dt_live.specs.declared.live_tree.LiveTree.{LiveTree}
 use Rattle.dt_live.specs.Rows.{IsNode, is_standing, node_path}
 use Rattle.dt_live.proofs.Keeping.{below-not-itself}
 use Rattle.dt_live.specs.Flattened.{IsWhole, Lent, lists}
 use Rattle.dt_live.proofs.Steps.{left-item}
-use Rattle.dt_fixup.specs.declared.patched_overlay.PatchedOverlay.{PatchedOverlay}
-use Rattle.dt_fixup.specs.PatchedOverlay.{patched_lists}
-use Rattle.dt_fixup.specs.OverlayFault.{IsFault}
-use Rattle.dt_fixup.specs.declared.error.OverlayError.{OverlayError}
-use Rattle.dt_fixup.specs.declared.error.OverlayError.TheVariants.{NoMemory, NotOverlay, NoTarget, UnknownSymbol, BadFixup, PhandleOverflow, PhandleClash, TooDeep}
-use Rattle.dt_overlay_meaning.specs.Fault.{Fault}
-use Rattle.dt_overlay_meaning.specs.Applied.{with_fragment}
+use Rattle.dt_overlay.specs.declared.fixup.patched_overlay.PatchedOverlay.{PatchedOverlay}
+use Rattle.dt_overlay.specs.Fixup.PatchedOverlay.{patched_lists}
+use Rattle.dt_overlay.specs.Fixup.OverlayFault.{IsFault}
+use Rattle.dt_overlay.specs.declared.fixup.error.OverlayError.{OverlayError}
+use Rattle.dt_overlay.specs.declared.fixup.error.OverlayError.TheVariants.{NoMemory, NotOverlay, NoTarget, UnknownSymbol, BadFixup, PhandleOverflow, PhandleClash, TooDeep}
+use Rattle.dt_source.specs.OverlayMeaning.Fault.{Fault}
+use Rattle.dt_source.specs.OverlayMeaning.Applied.{with_fragment}
 use Rattle.dt_overlay.specs.declared.fragments.Fragment.{Fragment}
 use Rattle.dt_overlay.specs.Private.Fragments.{AreFragments, IsFragment, IsTarget}
 use Rattle.dt_overlay.specs.Private.Merging.{AreKept, IsMergeable, merged_at}

@@ -5,20 +5,20 @@ use Rattle.std.specs.List.{flat_map}
 use Rattle.std.specs.Int.{from_be_bytes, w32}
 use Rattle.std.specs.BTreeMap.{BTreeMap, get}
 use Rattle.std.specs.Ordering.{nat_cmp}
-use Rattle.dt_meaning.specs.Edits.{has_node}
-use Rattle.dt_meaning.specs.Names.{overlay_name}
-use Rattle.dt_meaning.specs.Paths.{Path, is_listed}
+use Rattle.dt_source.specs.TreeMeaning.Edits.{has_node}
+use Rattle.dt_source.specs.TreeMeaning.Names.{overlay_name}
+use Rattle.dt_source.specs.TreeMeaning.Paths.{Path, is_listed}
 use Rattle.dt_live.specs.declared.live_tree.LiveTree.{LiveTree}
 use Rattle.dt_live.specs.Rows.{IsNode, child_of, node_path, path_of, row_at, state_of}
 use Rattle.dt_live.proofs.Climbs.{path-step}
 use Rattle.dt_live.specs.ByRow.{row_property}
 use Rattle.dt_live.specs.Flattened.{IsOrdered, IsWhole, Lent, lists, nodes_from}
 use Rattle.dt_live.proofs.LookUps.{child-found}
-use Rattle.dt_fixup.specs.declared.patched_overlay.PatchedOverlay.{PatchedOverlay}
-use Rattle.dt_fixup.specs.PatchedOverlay.{patched_lists}
-use Rattle.dt_fixup.proofs.Phandles.{at-row, phandles_from, whole-phandles}
-use Rattle.dt_overlay_meaning.specs.Shifted.{fragment_at, fragments, path_phandles, phandle_of, phandles}
-use Rattle.dt_overlay_meaning.specs.Applied.{first_with, standing, target_by}
+use Rattle.dt_overlay.specs.declared.fixup.patched_overlay.PatchedOverlay.{PatchedOverlay}
+use Rattle.dt_overlay.specs.Fixup.PatchedOverlay.{patched_lists}
+use Rattle.dt_overlay.proofs.FixupLemmas.Phandles.{at-row, phandles_from, whole-phandles}
+use Rattle.dt_source.specs.OverlayMeaning.Shifted.{fragment_at, fragments, path_phandles, phandle_of, phandles}
+use Rattle.dt_source.specs.OverlayMeaning.Applied.{first_with, standing, target_by}
 use Rattle.dt_overlay.specs.declared.fragments.Fragment.{Fragment}
 use Rattle.dt_overlay.specs.Private.Fragments.{AreFragments, ArePhandles, IsBody, IsFragment, IsTarget}
 

@@ -5,9 +5,9 @@ use Rattle.std.specs.List.{All, filter, list_all, list_any}
 use Rattle.std.proofs.lemmas.Bool.{and_parts, and_from}
 use Rattle.std.proofs.lemmas.List.Folds.{list_all-append}
 use Rattle.dt_tree.specs.Name.{is_name, are_names}
-use Rattle.dt_meaning.specs.Paths.{Path, is_listed}
-use Rattle.dt_meaning.specs.Edits.{Definition, definition, is_of, put}
-use Rattle.dt_meaning.specs.Resolved.{Resolved, is_too_deep}
+use Rattle.dt_source.specs.TreeMeaning.Paths.{Path, is_listed}
+use Rattle.dt_source.specs.TreeMeaning.Edits.{Definition, definition, is_of, put}
+use Rattle.dt_source.specs.TreeMeaning.Resolved.{Resolved, is_too_deep}
 use Rattle.dt_live.specs.declared.live_tree.LiveTree.{LiveTree}
 use Rattle.dt_live.specs.declared.live_tree.PropertyRow.{PropertyRow}
 use Rattle.dt_live.specs.Rows.{no_property, no_row, node_path, path_of, row_at}
@@ -15,10 +15,10 @@ use Rattle.dt_live.proofs.Climbs.{path-step}
 use Rattle.dt_live.specs.ByRow.{is_named}
 use Rattle.dt_live.specs.Flattened.{IsWhole, Lent, lists}
 use Rattle.dt_live.proofs.WholeTrees.{whole-nodes-named, whole-properties-named}
-use Rattle.dt_fixup.specs.declared.patched_overlay.PatchedOverlay.{PatchedOverlay}
-use Rattle.dt_fixup.specs.PatchedOverlay.{IsPatched, patched_lists, patched_from, value_at}
-use Rattle.dt_overlay_meaning.specs.Fault.{Fault, PhandleClash, TooDeep}
-use Rattle.dt_overlay_meaning.specs.Applied.{clashes, merged, moved, moved_value, with_node, with_nodes, with_values}
+use Rattle.dt_overlay.specs.declared.fixup.patched_overlay.PatchedOverlay.{PatchedOverlay}
+use Rattle.dt_overlay.specs.Fixup.PatchedOverlay.{IsPatched, patched_lists, patched_from, value_at}
+use Rattle.dt_source.specs.OverlayMeaning.Fault.{Fault, PhandleClash, TooDeep}
+use Rattle.dt_source.specs.OverlayMeaning.Applied.{clashes, merged, moved, moved_value, with_node, with_nodes, with_values}
 use Rattle.dt_overlay.specs.Private.Merging.{merged_at, part_below}
 
 abbrev Value : Type 0

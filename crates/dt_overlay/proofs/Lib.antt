@@ -1,5 +1,6 @@
 mod ApplySteps
 pub mod Clashes
+pub mod FixupLemmas
 pub mod Folded
 pub mod FragmentRows
 pub mod Lawful

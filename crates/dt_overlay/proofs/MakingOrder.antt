@@ -5,9 +5,9 @@ use Rattle.std.specs.List.{flat_map, list_all}
 use Rattle.std.proofs.lemmas.Bool.{and_parts}
 use Rattle.std.proofs.lemmas.List.{map-append}
 use Rattle.dt_tree.specs.Name.{is_name}
-use Rattle.dt_meaning.specs.Paths.{Path, same_path}
-use Rattle.dt_meaning.specs.Edits.{Definition, definition}
-use Rattle.dt_meaning.specs.References.{held, in_order, preorder}
+use Rattle.dt_source.specs.TreeMeaning.Paths.{Path, same_path}
+use Rattle.dt_source.specs.TreeMeaning.Edits.{Definition, definition}
+use Rattle.dt_source.specs.TreeMeaning.References.{held, in_order, preorder}
 use Rattle.dt_live.specs.declared.live_tree.LiveTree.{LiveTree}
 use Rattle.dt_live.specs.declared.preorder.Preorder.{Preorder}
 use Rattle.dt_live.specs.declared.preorder.properties.NodeProperty.{NodeProperty}
@@ -19,8 +19,8 @@ use Rattle.dt_live.proofs.Each.{Each, each-all}
 use Rattle.dt_live.proofs.MakingNodes.{AreInOrder, row-known}
 use Rattle.dt_live.proofs.Runs.{HasName, all-named}
 use Rattle.dt_live.proofs.WholeTrees.{whole-properties-named}
-use Rattle.dt_tree_builder.specs.Standing.{AreNodes}
-use Rattle.dt_making.specs.Made.{IsInPreorder, IsRest, entries, values_in}
+use Rattle.dt_live.specs.Builder.Standing.{AreNodes}
+use Rattle.dt_live.specs.Making.Made.{IsInPreorder, IsRest, entries, values_in}
 use Rattle.dt_overlay.specs.Private.Making.{copied}
 use Rattle.dt_overlay.proofs.MakingApart.{own-apart}
 

@@ -2,8 +2,8 @@
 use Rattle.std.proofs.Common.{◌≡◌, ℕ, ◌+◌, ◌-◌, ◌^◌, ◌<◌, ◌≤◌, min, List, length, get_or, drop, map, sym, ap, ◌∙◌, arith}
 use Rattle.std.proofs.Math.ListN.{drop_of_length-le}
 use Rattle.std.proofs.lemmas.List.{at_drop_more}
-use Rattle.dt_meaning.specs.Edits.{Definition}
-use Rattle.dt_tree_builder.specs.Sizes.{size_in}
+use Rattle.dt_source.specs.TreeMeaning.Edits.{Definition}
+use Rattle.dt_live.specs.Builder.Sizes.{size_in}
 
 module _ {R : Type 0} (f : R → Definition (List ℕ)) (xs : List R) where
   pub sizes-more : (i : ℕ) (x : R) → i < length xs → x ≡ get_or xs i x → (size part sum whole : ℕ) → part ≡ length (f x).value → sum ≡ min (size + part) (2 ^ 64 - 1)

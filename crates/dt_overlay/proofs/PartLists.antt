@@ -5,16 +5,16 @@ use Rattle.std.specs.List.{filter}
 use Rattle.std.proofs.lemmas.Bool.{and_from, cases_eq}
 use Rattle.std.proofs.lemmas.Bool.Decides.{nat_tests}
 use Rattle.std.proofs.lemmas.List.{get_or_default}
-use Rattle.dt_meaning.specs.Paths.{Path, is_within}
-use Rattle.dt_meaning.specs.Edits.{Definition, definition}
+use Rattle.dt_source.specs.TreeMeaning.Paths.{Path, is_within}
+use Rattle.dt_source.specs.TreeMeaning.Edits.{Definition, definition}
 use Rattle.dt_live.specs.declared.live_tree.LiveTree.{LiveTree}
 use Rattle.dt_live.specs.declared.live_tree.PropertyRow.{PropertyRow}
 use Rattle.dt_live.specs.Rows.{no_property, node_path, path_of, property_at}
 use Rattle.dt_live.specs.Flattened.{IsOrdered, IsWhole, Lent, lists, nodes_from}
 use Rattle.dt_live.proofs.Steps.{left-item}
-use Rattle.dt_fixup.specs.declared.patched_overlay.PatchedOverlay.{PatchedOverlay}
-use Rattle.dt_fixup.specs.PatchedOverlay.{IsPatched, patched_lists, patched_from, value_at}
-use Rattle.dt_overlay_meaning.specs.Applied.{moved, moved_value}
+use Rattle.dt_overlay.specs.declared.fixup.patched_overlay.PatchedOverlay.{PatchedOverlay}
+use Rattle.dt_overlay.specs.Fixup.PatchedOverlay.{IsPatched, patched_lists, patched_from, value_at}
+use Rattle.dt_source.specs.OverlayMeaning.Applied.{moved, moved_value}
 use Rattle.dt_overlay.specs.declared.part.Part.{Part}
 use Rattle.dt_overlay.specs.Private.Merging.{IsInside, IsPart, IsPartOf, part_below}
 use Rattle.dt_overlay.proofs.PartNodes.{all-deeper, all-inside, none-before, none-behind}

@@ -3,8 +3,8 @@ use Rattle.std.proofs.Common.{◌≡◌, ◌≢◌, inl, inr, ℕ, zero, suc, �
 use Rattle.std.specs.Str.{bytes_eq}
 use Rattle.std.proofs.lemmas.Bool.{and_parts, cases_eq}
 use Rattle.std.proofs.lemmas.List.{length_push}
-use Rattle.dt_meaning.specs.Paths.{Path, same_path, is_within}
-use Rattle.dt_tree_builder.specs.Standing.{AreFollowed, Follows}
+use Rattle.dt_source.specs.TreeMeaning.Paths.{Path, same_path, is_within}
+use Rattle.dt_live.specs.Builder.Standing.{AreFollowed, Follows}
 use Rattle.dt_live.specs.declared.live_tree.LiveTree.{LiveTree}
 use Rattle.dt_live.specs.declared.live_tree.NodeRow.{NodeRow}
 use Rattle.dt_live.specs.Rows.{node_path, row_at}

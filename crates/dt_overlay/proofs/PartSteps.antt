@@ -6,16 +6,16 @@ use Rattle.std.proofs.lemmas.Bool.{cases_eq}
 use Rattle.std.proofs.lemmas.Bool.Decides.{nat_tests}
 use Rattle.std.proofs.lemmas.List.{get_or_default, get_or-set_same, get_or-set_other}
 use Rattle.dt_tree.specs.declared.limits.TheConstants.{MAX_DEPTH}
-use Rattle.dt_meaning.specs.Edits as edits
-use Rattle.dt_meaning.specs.Paths.{Path}
-use Rattle.dt_meaning.specs.Resolved.{is_too_deep}
+use Rattle.dt_source.specs.TreeMeaning.Edits as edits
+use Rattle.dt_source.specs.TreeMeaning.Paths.{Path}
+use Rattle.dt_source.specs.TreeMeaning.Resolved.{is_too_deep}
 use Rattle.dt_live.specs.declared.live_tree.LiveTree.{LiveTree}
 use Rattle.dt_live.specs.declared.live_tree.NodeRow.{NodeRow}
 use Rattle.dt_live.specs.Rows.{IsNode, is_standing, no_row, node_path, row_at, state_of}
 use Rattle.dt_live.proofs.Climbs.{path-step}
 use Rattle.dt_live.proofs.Keeping.{below-not-itself}
 use Rattle.dt_live.specs.Flattened.{IsOrdered, IsWhole, Lent, lists}
-use Rattle.dt_overlay_meaning.specs.Applied.{moved, with_node, with_nodes}
+use Rattle.dt_source.specs.OverlayMeaning.Applied.{moved, with_node, with_nodes}
 use Rattle.dt_overlay.specs.Private.Merging.{AreKept, AreBaseNodes, IsInside, IsBaseNode}
 use Rattle.dt_overlay.proofs.PartNodes.{deeper}
 use Rattle.dt_overlay.proofs.PartLists.{nodes-step, nodes_left}

@@ -4,17 +4,17 @@ use Rattle.std.specs.Prelude.{codes}
 use Rattle.std.specs.List.{list_any}
 use Rattle.std.specs.Str.{bytes_eq}
 use Rattle.std.proofs.lemmas.Bool.{cases_lt}
-use Rattle.dt_meaning.specs.Edits.{Definition, put, with_property}
-use Rattle.dt_meaning.specs.MapOf.{value_in}
-use Rattle.dt_meaning.specs.Paths.{Path}
+use Rattle.dt_source.specs.TreeMeaning.Edits.{Definition, put, with_property}
+use Rattle.dt_source.specs.TreeMeaning.MapOf.{value_in}
+use Rattle.dt_source.specs.TreeMeaning.Paths.{Path}
 use Rattle.dt_live.specs.declared.live_tree.LiveTree.{LiveTree}
 use Rattle.dt_live.specs.declared.live_tree.PropertyRow.{PropertyRow}
 use Rattle.dt_live.specs.Rows.{HasSameNodes, node_path, path_of, property_at, state_of}
 use Rattle.dt_live.specs.Flattened.{IsOrdered, Lent, lists, plain}
 use Rattle.dt_live.proofs.Steps.{put-plain}
-use Rattle.dt_fixup.specs.declared.patched_overlay.PatchedOverlay.{PatchedOverlay}
-use Rattle.dt_fixup.specs.PatchedOverlay.{IsPatched, value_at}
-use Rattle.dt_overlay_meaning.specs.Applied.{clashes, moved, with_values}
+use Rattle.dt_overlay.specs.declared.fixup.patched_overlay.PatchedOverlay.{PatchedOverlay}
+use Rattle.dt_overlay.specs.Fixup.PatchedOverlay.{IsPatched, value_at}
+use Rattle.dt_source.specs.OverlayMeaning.Applied.{clashes, moved, with_values}
 use Rattle.dt_overlay.specs.declared.part.Part.{Part}
 use Rattle.dt_overlay.specs.Private.Merging.{AreBaseNodes, IsPartOf, IsBaseNode}
 use Rattle.dt_overlay.proofs.PartLists.{values_left, values-step}

@@ -3,19 +3,19 @@ use Rattle.std.proofs.Common.{◌≡◌, ℕ, Bool, true, false, ◌||◌, List,
 use Rattle.std.specs.Prelude.{ok_or}
 use Rattle.std.specs.List.{list_any}
 use Rattle.dt_tree.specs.Steps.{then_do, fold}
-use Rattle.dt_meaning.specs.Paths.{Path, is_listed}
-use Rattle.dt_meaning.specs.Names.{symbols_name}
-use Rattle.dt_meaning.specs.Resolved.{Resolved, is_too_deep}
-use Rattle.dt_overlay_meaning.specs.Fault.{Fault, PhandleClash, TooDeep, NoTarget}
-use Rattle.dt_overlay_meaning.specs.Shifted.{Value}
-use Rattle.dt_overlay_meaning.specs.Texts.{ended_path}
-use Rattle.dt_overlay_meaning.specs.Applied.{clashes, merged, part_of, symbol_path, target, with_fragment, with_node, with_nodes, with_symbol_at, with_symbols, with_values}
+use Rattle.dt_source.specs.TreeMeaning.Paths.{Path, is_listed}
+use Rattle.dt_source.specs.TreeMeaning.Names.{symbols_name}
+use Rattle.dt_source.specs.TreeMeaning.Resolved.{Resolved, is_too_deep}
+use Rattle.dt_source.specs.OverlayMeaning.Fault.{Fault, PhandleClash, TooDeep, NoTarget}
+use Rattle.dt_source.specs.OverlayMeaning.Shifted.{Value}
+use Rattle.dt_source.specs.OverlayMeaning.Texts.{ended_path}
+use Rattle.dt_source.specs.OverlayMeaning.Applied.{clashes, merged, part_of, symbol_path, target, with_fragment, with_node, with_nodes, with_symbol_at, with_symbols, with_values}
 use Rattle.dt_live.specs.declared.live_tree.LiveTree.{LiveTree}
 use Rattle.dt_live.specs.Index.{row_of}
 use Rattle.dt_live.proofs.NodesStanding.{are-nodes}
 use Rattle.dt_live.specs.Flattened.{IsWhole, Lent, lists}
-use Rattle.dt_tree_builder.specs.Standing.{AreNodes}
-use Rattle.dt_tree_builder.proofs.PathFacts.{or-false}
+use Rattle.dt_live.specs.Builder.Standing.{AreNodes}
+use Rattle.dt_live.proofs.BuilderLemmas.PathFacts.{or-false}
 
 -- ---- the nodes of a whole live tree
 module _ (d : LiveTree Lent) (w : IsWhole d) where

@@ -6,11 +6,11 @@ use Rattle.std.proofs.Math.Seq.{drop-append_seam, take-append_seam}
 use Rattle.std.proofs.lemmas.Bool.{and_from, and_parts, leb-true, leb-false, ltb-false}
 use Rattle.std.proofs.lemmas.List.{ext_get_or, get_or-append_right, get_or-drop, get_or-take, get_or_append_left}
 use Rattle.std.proofs.lemmas.Slice.Eq.{bytes_eq-Decides}
-use Rattle.dt_meaning.specs.Paths.{Path, same_path}
-use Rattle.dt_meaning.specs.Edits.{is_of}
-use Rattle.dt_meaning.specs.MapOf.{value_in}
+use Rattle.dt_source.specs.TreeMeaning.Paths.{Path, same_path}
+use Rattle.dt_source.specs.TreeMeaning.Edits.{is_of}
+use Rattle.dt_source.specs.TreeMeaning.MapOf.{value_in}
 use Rattle.dt_live.proofs.PathTests.{same-is, same-itself}
-use Rattle.dt_overlay_meaning.specs.Shifted.{Site, Value, are_apart, fits, with_value, write_at, written}
+use Rattle.dt_source.specs.OverlayMeaning.Shifted.{Site, Value, are_apart, fits, with_value, write_at, written}
 use Rattle.dt_overlay.specs.ShiftedPlaces.{Shape, byte_at, bytes_at, covers, shape}
 
 -- ---- in a value

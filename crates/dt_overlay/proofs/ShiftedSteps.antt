@@ -8,13 +8,13 @@ use Rattle.std.proofs.lemmas.Bool.{and_parts, eqb-true, or_from, or_parts}
 use Rattle.std.proofs.lemmas.Slice.Eq.{bytes_eq-Decides}
 use Rattle.dt_tree.specs.Phandle.{is_reserved, phandle_from, phandle_in}
 use Rattle.dt_tree.specs.Steps.{then_do, each, fold}
-use Rattle.dt_meaning.specs.Paths.{Path}
-use Rattle.dt_meaning.specs.Edits.{is_of}
-use Rattle.dt_meaning.specs.Resolved.{Resolved}
-use Rattle.dt_meaning.specs.MapOf.{value_in}
+use Rattle.dt_source.specs.TreeMeaning.Paths.{Path}
+use Rattle.dt_source.specs.TreeMeaning.Edits.{is_of}
+use Rattle.dt_source.specs.TreeMeaning.Resolved.{Resolved}
+use Rattle.dt_source.specs.TreeMeaning.MapOf.{value_in}
 use Rattle.dt_live.proofs.Each.{Each, each-all, each-same}
-use Rattle.dt_overlay_meaning.specs.Fault.{BadFixup, PhandleClash, PhandleOverflow, UnknownSymbol}
-use Rattle.dt_overlay_meaning.specs.Shifted.{Value, Site, Shifting, Fixup, are_apart, cells, differ, fits, fixups_in, fragments, is_fixups, is_local_fixup, number_at, phandle_of, phandles, raise_at, raise_sites, raised, raised_number, raised_phandle, resolve, shift, site, some_of, symbol_phandle, take_site, with_fixups, with_phandles, with_value, write_at}
+use Rattle.dt_source.specs.OverlayMeaning.Fault.{BadFixup, PhandleClash, PhandleOverflow, UnknownSymbol}
+use Rattle.dt_source.specs.OverlayMeaning.Shifted.{Value, Site, Shifting, Fixup, are_apart, cells, differ, fits, fixups_in, fragments, is_fixups, is_local_fixup, number_at, phandle_of, phandles, raise_at, raise_sites, raised, raised_number, raised_phandle, resolve, shift, site, some_of, symbol_phandle, take_site, with_fixups, with_phandles, with_value, write_at}
 use Rattle.dt_overlay.specs.ShiftedPlaces.{HoldsItsNode, IsShifted, ShiftedByPlaces, byte_at, bytes_at, covers, fixup_places, greater, local_places, local_sites, phandle_there, read_fixups, shape}
 use Rattle.dt_overlay.proofs.UnionShifted.{did, ok, ok-same, shifting, take-same, valued, with_fixed, with_raised}
 use Rattle.dt_overlay.proofs.ShiftedBytes.{IsApart, apart-back, apart-is, bytes-apart, bytes-own, byte-other, fits-same, key-name, key-path, shape-write, sized, value-other}

@@ -4,15 +4,15 @@ use Rattle.std.specs.Prelude.{All}
 use Rattle.dt_tree.specs.NodeData.{NodeData}
 use Rattle.dt_tree.specs.PathMap.{path_map}
 use Rattle.dt_tree.specs.Sound.{IsSound}
-use Rattle.dt_meaning.specs.Paths.{is_listed}
-use Rattle.dt_meaning.specs.Edits.{Definition}
-use Rattle.dt_meaning.specs.MapOf.{map_of}
+use Rattle.dt_source.specs.TreeMeaning.Paths.{is_listed}
+use Rattle.dt_source.specs.TreeMeaning.Edits.{Definition}
+use Rattle.dt_source.specs.TreeMeaning.MapOf.{map_of}
 use Rattle.dt_live.specs.declared.live_tree.LiveTree.{LiveTree}
 use Rattle.dt_live.specs.declared.live_tree.PropertyRow.{PropertyRow}
 use Rattle.dt_live.specs.Index.{row_of}
 use Rattle.dt_live.specs.Rows.{property_at}
-use Rattle.dt_tree_builder.specs.Sizes.{size_in, size_below}
-use Rattle.dt_tree_builder.proofs.SizesOfMaps.{once-by_names, sizes-of-lists}
+use Rattle.dt_live.specs.Builder.Sizes.{size_in, size_below}
+use Rattle.dt_live.proofs.BuilderLemmas.SizesOfMaps.{once-by_names, sizes-of-lists}
 use Rattle.dt_live.proofs.NodesStanding.{there-by}
 use Rattle.dt_live.specs.ByRow.{defined_by}
 use Rattle.dt_live.specs.Flattened.{IsWhole, Lent, lists}

@@ -3,9 +3,9 @@ use Rattle.std.proofs.Common.{◌≡◌, ◌<◌, ◌≤◌, ◌-◌, ℕ, zero,
 use Rattle.std.specs.Prelude.{option_map}
 use denote.Ref.{Bor}
 use Rattle.dt_tree.specs.Path.{behind_slashes, text_or_root}
-use Rattle.dt_meaning.specs.Names.{overlay_name}
-use Rattle.dt_meaning.specs.Paths.{Path, is_listed}
-use Rattle.dt_meaning.specs.Resolved.{Resolved}
+use Rattle.dt_source.specs.TreeMeaning.Names.{overlay_name}
+use Rattle.dt_source.specs.TreeMeaning.Paths.{Path, is_listed}
+use Rattle.dt_source.specs.TreeMeaning.Resolved.{Resolved}
 use Rattle.dt_live.specs.declared.live_tree.LiveTree.{LiveTree}
 use Rattle.dt_live.specs.Rows.{IsNode, child_of, node_path, path_of, row_at, stands}
 use Rattle.dt_live.proofs.Climbs.{path-step}
@@ -14,9 +14,9 @@ use Rattle.dt_live.proofs.StandingProperties.{listed-standing, standing-listed}
 use Rattle.dt_live.specs.Flattened.{IsWhole, Lent, lists}
 use Rattle.dt_live.proofs.Behind.{false-by}
 use Rattle.dt_live.proofs.LookUps.{child-found}
-use Rattle.dt_fixup.specs.declared.patched_overlay.PatchedOverlay.{PatchedOverlay}
-use Rattle.dt_fixup.specs.PatchedOverlay.{patched_lists}
-use Rattle.dt_overlay_meaning.specs.Applied.{body, symbol_path, target}
+use Rattle.dt_overlay.specs.declared.fixup.patched_overlay.PatchedOverlay.{PatchedOverlay}
+use Rattle.dt_overlay.specs.Fixup.PatchedOverlay.{patched_lists}
+use Rattle.dt_source.specs.OverlayMeaning.Applied.{body, symbol_path, target}
 use Rattle.dt_overlay.specs.Private.Fragments.{IsTarget}
 use Rattle.dt_overlay.specs.Private.SymbolTargets.{AreTargets, IsInside, IsRowTarget, IsSymbolTarget}
 use Rattle.dt_overlay.proofs.SymbolTexts.{behind-more, text-or}

@@ -4,20 +4,20 @@ use Rattle.std.specs.List.{filter, flat_map}
 use Rattle.std.proofs.lemmas.Bool.Decides.{nat_tests}
 use Rattle.std.proofs.lemmas.List.{at_drop_more}
 use Rattle.dt_tree.specs.Path.{text_or_root}
-use Rattle.dt_meaning.specs.Paths.{Path, same_path}
-use Rattle.dt_meaning.specs.Names.{symbols_name}
-use Rattle.dt_meaning.specs.Edits.{definition}
-use Rattle.dt_meaning.specs.Resolved.{Resolved}
+use Rattle.dt_source.specs.TreeMeaning.Paths.{Path, same_path}
+use Rattle.dt_source.specs.TreeMeaning.Names.{symbols_name}
+use Rattle.dt_source.specs.TreeMeaning.Edits.{definition}
+use Rattle.dt_source.specs.TreeMeaning.Resolved.{Resolved}
 use Rattle.dt_live.specs.declared.live_tree.PropertyRow.{PropertyRow}
 use Rattle.dt_live.specs.Rows.{no_property, property_at, path_of}
-use Rattle.dt_tree_builder.specs.Sizes.{size_in}
-use Rattle.dt_tree_builder.proofs.SizesOfMaps.{size-append}
+use Rattle.dt_live.specs.Builder.Sizes.{size_in}
+use Rattle.dt_live.proofs.BuilderLemmas.SizesOfMaps.{size-append}
 use Rattle.dt_live.specs.Flattened.{Lent}
-use Rattle.dt_fixup.specs.declared.patched_overlay.PatchedOverlay.{PatchedOverlay}
-use Rattle.dt_fixup.specs.PatchedOverlay.{patched_lists, patched_from, value_at}
-use Rattle.dt_overlay_meaning.specs.Applied.{symbol_path}
-use Rattle.dt_overlay_meaning.specs.Shifted.{Value}
-use Rattle.dt_overlay_meaning.specs.Texts.{ended_path}
+use Rattle.dt_overlay.specs.declared.fixup.patched_overlay.PatchedOverlay.{PatchedOverlay}
+use Rattle.dt_overlay.specs.Fixup.PatchedOverlay.{patched_lists, patched_from, value_at}
+use Rattle.dt_source.specs.OverlayMeaning.Applied.{symbol_path}
+use Rattle.dt_source.specs.OverlayMeaning.Shifted.{Value}
+use Rattle.dt_source.specs.OverlayMeaning.Texts.{ended_path}
 use Rattle.dt_overlay.specs.Private.Symbols.{symbol_at}
 
 -- ---- the text of a path

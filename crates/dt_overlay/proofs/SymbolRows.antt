@@ -2,14 +2,14 @@
 use Rattle.std.proofs.Common.{◌≡◌, ◌⊎◌, inl, inr, MatchOption, is_some, true≢false, ◌<◌, ◌+◌, ℕ, zero, suc, Bool, true, false, List, [], ◌∷◌, ◌++◌, length, Option, Some, None, if◌then◌else◌, slice_index_or, drop, refl, ap, sym, ◌∙◌, subst, arith}
 use Rattle.std.specs.Prelude.{option_map}
 use Rattle.std.specs.List.{flat_map}
-use Rattle.dt_meaning.specs.Paths.{Path, is_listed}
+use Rattle.dt_source.specs.TreeMeaning.Paths.{Path, is_listed}
 use Rattle.dt_live.specs.declared.live_tree.LiveTree.{LiveTree}
 use Rattle.dt_live.specs.Rows.{node_path}
 use Rattle.dt_live.specs.Flattened.{IsOrdered, Lent, lists}
-use Rattle.dt_fixup.specs.declared.patched_overlay.PatchedOverlay.{PatchedOverlay}
-use Rattle.dt_fixup.specs.PatchedOverlay.{patched_lists}
-use Rattle.dt_overlay_meaning.specs.Applied.{body, target}
-use Rattle.dt_overlay_meaning.specs.Shifted.{fragment_at, fragments}
+use Rattle.dt_overlay.specs.declared.fixup.patched_overlay.PatchedOverlay.{PatchedOverlay}
+use Rattle.dt_overlay.specs.Fixup.PatchedOverlay.{patched_lists}
+use Rattle.dt_source.specs.OverlayMeaning.Applied.{body, target}
+use Rattle.dt_source.specs.OverlayMeaning.Shifted.{fragment_at, fragments}
 use Rattle.dt_overlay.specs.declared.fragments.Fragment.{Fragment}
 use Rattle.dt_overlay.specs.Private.Fragments.{AreFragments, IsBody, IsFragment}
 use Rattle.dt_overlay.specs.Private.SymbolTargets.{IsRowTarget, no_fragment}

@@ -6,26 +6,26 @@ use Rattle.std.specs.Str.{bytes_eq}
 use Rattle.std.proofs.lemmas.Bool.{and_parts, and_from}
 use Rattle.dt_tree.specs.Sound.{is_among, are_distinct}
 use Rattle.dt_tree.proofs.SeenNames.{bytes_eq-comm}
-use Rattle.dt_meaning.specs.Paths.{Path, same_path, is_listed}
-use Rattle.dt_meaning.specs.Names.{symbols_name}
-use Rattle.dt_meaning.specs.Edits.{definition, is_of, put}
-use Rattle.dt_meaning.specs.Resolved.{Resolved}
-use Rattle.dt_meaning.specs.MapOf.{value_in}
-use Rattle.dt_tree_builder.proofs.PathFacts.{not-true, or-false, same-itself, same-is}
+use Rattle.dt_source.specs.TreeMeaning.Paths.{Path, same_path, is_listed}
+use Rattle.dt_source.specs.TreeMeaning.Names.{symbols_name}
+use Rattle.dt_source.specs.TreeMeaning.Edits.{definition, is_of, put}
+use Rattle.dt_source.specs.TreeMeaning.Resolved.{Resolved}
+use Rattle.dt_source.specs.TreeMeaning.MapOf.{value_in}
+use Rattle.dt_live.proofs.BuilderLemmas.PathFacts.{not-true, or-false, same-itself, same-is}
 use Rattle.dt_live.specs.declared.live_tree.LiveTree.{LiveTree}
 use Rattle.dt_live.specs.declared.live_tree.PropertyRow.{PropertyRow}
 use Rattle.dt_live.specs.Rows.{path_of}
-use Rattle.dt_tree_builder.specs.Sizes.{size_in}
-use Rattle.dt_tree_builder.proofs.SizesOfMaps.{are_once, of-comm, of-is, of-itself, once-by_names, sizes-by_values, sizes-of-lists}
+use Rattle.dt_live.specs.Builder.Sizes.{size_in}
+use Rattle.dt_live.proofs.BuilderLemmas.SizesOfMaps.{are_once, of-comm, of-is, of-itself, once-by_names, sizes-by_values, sizes-of-lists}
 use Rattle.dt_live.specs.ByRow.{defined_by}
 use Rattle.dt_live.specs.Flattened.{IsWhole, Lent, lists}
 use Rattle.dt_live.proofs.WholeTrees.{all-entries}
-use Rattle.dt_fixup.specs.declared.patched_overlay.PatchedOverlay.{PatchedOverlay}
-use Rattle.dt_fixup.specs.PatchedOverlay.{IsPatched, patched_lists, patched_from, value_at}
-use Rattle.dt_overlay_meaning.specs.Applied.{symbol_path, with_fragment, with_node}
-use Rattle.dt_overlay_meaning.specs.Shifted.{Value, fragments}
+use Rattle.dt_overlay.specs.declared.fixup.patched_overlay.PatchedOverlay.{PatchedOverlay}
+use Rattle.dt_overlay.specs.Fixup.PatchedOverlay.{IsPatched, patched_lists, patched_from, value_at}
+use Rattle.dt_source.specs.OverlayMeaning.Applied.{symbol_path, with_fragment, with_node}
+use Rattle.dt_source.specs.OverlayMeaning.Shifted.{Value, fragments}
 use Rattle.dt_tree.specs.Steps.{fold}
-use Rattle.dt_overlay_meaning.specs.Texts.{ended_path}
+use Rattle.dt_source.specs.OverlayMeaning.Texts.{ended_path}
 use Rattle.dt_overlay.specs.Private.Applying.{HasSymbols}
 use Rattle.dt_overlay.specs.Private.Symbols.{symbol_at, symbols_of, with_all, with_symbol}
 use Rattle.dt_overlay.proofs.ApplySteps.{applied-is}

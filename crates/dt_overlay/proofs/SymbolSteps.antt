@@ -3,16 +3,16 @@ use Rattle.std.proofs.Common.{◌≡◌, ℕ, ◌+◌, ◌<◌, true, List, [], 
 use Rattle.std.specs.List.{list_all}
 use Rattle.std.proofs.lemmas.List.{at_drop_more}
 use Rattle.dt_tree.specs.Name.{is_name, are_names}
-use Rattle.dt_meaning.specs.Edits.{definition}
-use Rattle.dt_meaning.specs.Names.{symbols_name}
+use Rattle.dt_source.specs.TreeMeaning.Edits.{definition}
+use Rattle.dt_source.specs.TreeMeaning.Names.{symbols_name}
 use Rattle.dt_live.specs.ByRow.{is_named}
 use Rattle.dt_overlay.specs.declared.symbols.Symbol.{Symbol}
 use Rattle.dt_overlay.proofs.Lawful.{IsLawful, node-lawful, put-lawful}
-use Rattle.dt_meaning.specs.Paths.{Path}
-use Rattle.dt_meaning.specs.Resolved.{Resolved}
-use Rattle.dt_overlay_meaning.specs.Applied.{symbol_path, with_symbol_at, with_symbols}
-use Rattle.dt_overlay_meaning.specs.Shifted.{Value}
-use Rattle.dt_overlay_meaning.specs.Texts.{ended_path}
+use Rattle.dt_source.specs.TreeMeaning.Paths.{Path}
+use Rattle.dt_source.specs.TreeMeaning.Resolved.{Resolved}
+use Rattle.dt_source.specs.OverlayMeaning.Applied.{symbol_path, with_symbol_at, with_symbols}
+use Rattle.dt_source.specs.OverlayMeaning.Shifted.{Value}
+use Rattle.dt_source.specs.OverlayMeaning.Texts.{ended_path}
 use Rattle.std.specs.List.{flat_map}
 use Rattle.dt_overlay.specs.Private.Symbols.{symbol_at, symbol_value, with_all, with_symbol}
 

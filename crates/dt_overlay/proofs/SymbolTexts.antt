@@ -4,7 +4,7 @@ use Rattle.std.specs.List.{All, slice_split, join_with_byte}
 use Rattle.std.proofs.lemmas.List.{drop_more, get_or_default}
 use Rattle.std.proofs.lemmas.List.Splits.{length-slice_split, join_with_byte-slice_split}
 use Rattle.std.proofs.lemmas.Bool.Decides.{nat_tests}
-use Rattle.dt_meaning.specs.Names.{overlay_name}
+use Rattle.dt_source.specs.TreeMeaning.Names.{overlay_name}
 use Rattle.dt_tree.specs.Path.{behind_slashes, is_slash, names_behind, path_names, path_text, text_or_root}
 use Rattle.dt_tree.proofs.FirstName.{slice_split_read}
 use Rattle.dt_overlay.specs.Private.SymbolTargets.{IsInside, names_after}

@@ -5,13 +5,13 @@ use Rattle.std.specs.List.{list_any}
 use Rattle.std.specs.Str.{bytes_eq}
 use Rattle.std.proofs.lemmas.Bool.{and_parts, and_from, lt-ltb, ltb-true}
 use Rattle.std.proofs.lemmas.Slice.Eq.{bytes_eq-Decides}
-use Rattle.dt_meaning.specs.Paths.{Path, same_path, is_listed}
-use Rattle.dt_meaning.specs.Edits.{is_of}
-use Rattle.dt_meaning.specs.Resolved.{is_too_deep}
-use Rattle.dt_meaning.specs.MapOf.{value_in}
-use Rattle.dt_tree_builder.proofs.PathFacts.{or-right, same-is, same-itself}
-use Rattle.dt_overlay_meaning.specs.Shifted.{Value}
-use Rattle.dt_overlay_meaning.specs.Applied.{clashes}
+use Rattle.dt_source.specs.TreeMeaning.Paths.{Path, same_path, is_listed}
+use Rattle.dt_source.specs.TreeMeaning.Edits.{is_of}
+use Rattle.dt_source.specs.TreeMeaning.Resolved.{is_too_deep}
+use Rattle.dt_source.specs.TreeMeaning.MapOf.{value_in}
+use Rattle.dt_live.proofs.BuilderLemmas.PathFacts.{or-right, same-is, same-itself}
+use Rattle.dt_source.specs.OverlayMeaning.Shifted.{Value}
+use Rattle.dt_source.specs.OverlayMeaning.Applied.{clashes}
 
 pub clash-at : (es ds : List Value) → list_any (clashes es) ds ≡ true → (q : Path) × (is_some (value_in es q (codes "phandle")) ≡ true) × (is_some (value_in ds q (codes "phandle")) ≡ true)
 clash-at es [] e = absurd (true≢false (sym e))

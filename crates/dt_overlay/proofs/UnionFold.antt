@@ -4,11 +4,11 @@ use Rattle.std.specs.Prelude.{Result, ok_or}
 use Rattle.std.specs.List.{list_any}
 use Rattle.dt_tree.specs.Steps.{then_do, fold}
 use Rattle.dt_tree.specs.Merged.{placed, union}
-use Rattle.dt_meaning.specs.Paths.{Path}
-use Rattle.dt_meaning.specs.Resolved.{Resolved, is_too_deep}
-use Rattle.dt_meaning.specs.MapOf.{is_there, map_of}
-use Rattle.dt_overlay_meaning.specs.Fault.{Fault, NoTarget, PhandleClash, TooDeep}
-use Rattle.dt_overlay_meaning.specs.Applied.{clashes, merged, part_of, target, with_fragment}
+use Rattle.dt_source.specs.TreeMeaning.Paths.{Path}
+use Rattle.dt_source.specs.TreeMeaning.Resolved.{Resolved, is_too_deep}
+use Rattle.dt_source.specs.TreeMeaning.MapOf.{is_there, map_of}
+use Rattle.dt_source.specs.OverlayMeaning.Fault.{Fault, NoTarget, PhandleClash, TooDeep}
+use Rattle.dt_source.specs.OverlayMeaning.Applied.{clashes, merged, part_of, target, with_fragment}
 use Rattle.dt_overlay.specs.Union.{Map, AreStacked, Fits, IsPlaced, IsWhy, overlay_map, united}
 use Rattle.dt_overlay.proofs.UnionMerged.{IsTidy, IsDistinct, clash-hidden, clash-patched_lists, deep-hidden, deep-patched_lists, map-result, result, there-result, tidy-result}
 use Rattle.dt_overlay.proofs.UnionShifted.{ok, ok-same}

@@ -6,13 +6,13 @@ use Rattle.std.proofs.lemmas.Bool.{and_parts, and_from}
 use Rattle.dt_tree.specs.Merged.{joined, joined_names, first_of, placed, union}
 use Rattle.dt_tree.specs.PathMap.{PathMap}
 use Rattle.dt_tree.specs.Sound.{is_among, are_distinct}
-use Rattle.dt_meaning.specs.Names.{overlay_name}
-use Rattle.dt_meaning.specs.Paths.{Path, same_path, is_within, is_listed, name_below}
-use Rattle.dt_meaning.specs.References.{held}
-use Rattle.dt_meaning.specs.Resolved.{Resolved, is_too_deep}
-use Rattle.dt_meaning.specs.MapOf.{is_there, value_in, map_of}
-use Rattle.dt_tree_builder.proofs.PathFacts.{or-false}
-use Rattle.dt_overlay_meaning.specs.Applied.{clashes, part_of, with_nodes, with_values}
+use Rattle.dt_source.specs.TreeMeaning.Names.{overlay_name}
+use Rattle.dt_source.specs.TreeMeaning.Paths.{Path, same_path, is_within, is_listed, name_below}
+use Rattle.dt_source.specs.TreeMeaning.References.{held}
+use Rattle.dt_source.specs.TreeMeaning.Resolved.{Resolved, is_too_deep}
+use Rattle.dt_source.specs.TreeMeaning.MapOf.{is_there, value_in, map_of}
+use Rattle.dt_live.proofs.BuilderLemmas.PathFacts.{or-false}
+use Rattle.dt_source.specs.OverlayMeaning.Applied.{clashes, part_of, with_nodes, with_values}
 use Rattle.dt_overlay.specs.Union.{Clashes, IsTooDeep, overlay_map}
 use Rattle.dt_overlay.proofs.UnionClashes.{at-clash, at-deep, clash-at, deep-at}
 use Rattle.dt_overlay.proofs.UnionPaths.{named, named-held, within-drop, has_rest, part-kids, part-listed, part-named, part-value}

@@ -9,13 +9,13 @@ use Rattle.dt_tree.specs.Changes.{with_name}
 use Rattle.dt_tree.specs.Merged.{joined, joined_names, first_of}
 use Rattle.dt_tree.specs.Sound.{is_among, are_distinct}
 use Rattle.dt_tree.proofs.SeenNames.{bytes_eq-comm}
-use Rattle.dt_meaning.specs.Paths.{Path, same_path, is_listed, name_below}
-use Rattle.dt_meaning.specs.Edits.{definition, is_of, put}
-use Rattle.dt_meaning.specs.MapOf.{value_in}
-use Rattle.dt_tree_builder.proofs.PathFacts.{not-true, same-is, same-itself, below-is, below-child}
-use Rattle.dt_tree_builder.proofs.Standing.{listed-both}
-use Rattle.dt_overlay_meaning.specs.Shifted.{Value}
-use Rattle.dt_overlay_meaning.specs.Applied.{with_node, with_nodes, with_values}
+use Rattle.dt_source.specs.TreeMeaning.Paths.{Path, same_path, is_listed, name_below}
+use Rattle.dt_source.specs.TreeMeaning.Edits.{definition, is_of, put}
+use Rattle.dt_source.specs.TreeMeaning.MapOf.{value_in}
+use Rattle.dt_live.proofs.BuilderLemmas.PathFacts.{not-true, same-is, same-itself, below-is, below-child}
+use Rattle.dt_live.proofs.BuilderLemmas.Standing.{listed-both}
+use Rattle.dt_source.specs.OverlayMeaning.Shifted.{Value}
+use Rattle.dt_source.specs.OverlayMeaning.Applied.{with_node, with_nodes, with_values}
 use Rattle.dt_overlay.proofs.UnionPaths.{named}
 
 -- ---- names one after the other

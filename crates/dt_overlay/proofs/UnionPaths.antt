@@ -6,14 +6,14 @@ use Rattle.std.specs.Str.{bytes_eq}
 use Rattle.std.proofs.lemmas.Bool.{and_parts}
 use Rattle.std.proofs.lemmas.Bool.Decides.{nat_tests}
 use Rattle.dt_tree.proofs.SeenNames.{bytes_eq-comm}
-use Rattle.dt_meaning.specs.Names.{overlay_name}
-use Rattle.dt_meaning.specs.Paths.{Path, same_path, is_within, is_listed, name_below}
-use Rattle.dt_meaning.specs.References.{held}
-use Rattle.dt_meaning.specs.MapOf.{value_in}
-use Rattle.dt_tree_builder.proofs.Orders.{no-below}
-use Rattle.dt_tree_builder.proofs.PathFacts.{bytes-itself, within-is}
-use Rattle.dt_overlay_meaning.specs.Shifted.{Value}
-use Rattle.dt_overlay_meaning.specs.Applied.{body, moved, moved_value}
+use Rattle.dt_source.specs.TreeMeaning.Names.{overlay_name}
+use Rattle.dt_source.specs.TreeMeaning.Paths.{Path, same_path, is_within, is_listed, name_below}
+use Rattle.dt_source.specs.TreeMeaning.References.{held}
+use Rattle.dt_source.specs.TreeMeaning.MapOf.{value_in}
+use Rattle.dt_live.proofs.BuilderLemmas.Orders.{no-below}
+use Rattle.dt_live.proofs.BuilderLemmas.PathFacts.{bytes-itself, within-is}
+use Rattle.dt_source.specs.OverlayMeaning.Shifted.{Value}
+use Rattle.dt_source.specs.OverlayMeaning.Applied.{body, moved, moved_value}
 
 -- ---- the names of a node's properties
 abbrev pub named : List Value → Path → List (List ℕ)

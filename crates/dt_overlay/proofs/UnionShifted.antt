@@ -5,11 +5,11 @@ use Rattle.std.specs.Int.{to_be_bytes, w32}
 use Rattle.std.specs.List.{filter, filter_map, flat_map}
 use Rattle.dt_tree.specs.Steps.{then_do, each, fold}
 use Rattle.dt_tree.specs.Sound.{are_distinct}
-use Rattle.dt_meaning.specs.Paths.{Path, same_path, is_listed, name_below}
-use Rattle.dt_meaning.specs.Edits.{definition, is_of}
-use Rattle.dt_meaning.specs.Resolved.{Resolved}
-use Rattle.dt_overlay_meaning.specs.Fault.{Fault, BadFixup, PhandleClash, UnknownSymbol}
-use Rattle.dt_overlay_meaning.specs.Shifted.{Value, Site, Shifting, Fixup, cells, differ, fixups_in, fragments, is_fixups, is_local_fixup, is_site, number_at, phandle_of, phandles, site, raise_at, raise_sites, raised, raised_number, raised_phandle, resolve, shift, shifted_overlay, some_of, symbol_phandle, take_site, with_fixups, with_phandles, with_value, write_at, written}
+use Rattle.dt_source.specs.TreeMeaning.Paths.{Path, same_path, is_listed, name_below}
+use Rattle.dt_source.specs.TreeMeaning.Edits.{definition, is_of}
+use Rattle.dt_source.specs.TreeMeaning.Resolved.{Resolved}
+use Rattle.dt_source.specs.OverlayMeaning.Fault.{Fault, BadFixup, PhandleClash, UnknownSymbol}
+use Rattle.dt_source.specs.OverlayMeaning.Shifted.{Value, Site, Shifting, Fixup, cells, differ, fixups_in, fragments, is_fixups, is_local_fixup, is_site, number_at, phandle_of, phandles, site, raise_at, raise_sites, raised, raised_number, raised_phandle, resolve, shift, shifted_overlay, some_of, symbol_phandle, take_site, with_fixups, with_phandles, with_value, write_at, written}
 use Rattle.dt_overlay.proofs.UnionPaths.{named}
 use Rattle.dt_overlay.proofs.UnionMerged.{IsTidy, IsDistinct}
 

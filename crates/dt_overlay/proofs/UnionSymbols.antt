@@ -6,18 +6,18 @@ use Rattle.std.specs.Str.{bytes_eq}
 use Rattle.dt_tree.specs.Changes.{with_child, with_name, with_property}
 use Rattle.dt_tree.specs.Path.{path_text}
 use Rattle.dt_tree.proofs.SeenNames.{bytes_eq-comm}
-use Rattle.dt_meaning.specs.Names.{symbols_name}
-use Rattle.dt_meaning.specs.Paths.{Path, same_path, is_listed, name_below}
-use Rattle.dt_meaning.specs.Edits.{put}
-use Rattle.dt_meaning.specs.References.{held}
-use Rattle.dt_meaning.specs.Resolved.{Resolved}
-use Rattle.dt_meaning.specs.MapOf.{is_there, value_in, map_of}
+use Rattle.dt_source.specs.TreeMeaning.Names.{symbols_name}
+use Rattle.dt_source.specs.TreeMeaning.Paths.{Path, same_path, is_listed, name_below}
+use Rattle.dt_source.specs.TreeMeaning.Edits.{put}
+use Rattle.dt_source.specs.TreeMeaning.References.{held}
+use Rattle.dt_source.specs.TreeMeaning.Resolved.{Resolved}
+use Rattle.dt_source.specs.TreeMeaning.MapOf.{is_there, value_in, map_of}
 use Rattle.std.proofs.lemmas.List.Elements.{filter_map-append}
-use Rattle.dt_tree_builder.proofs.PathFacts.{or-false, same-is, same-itself}
-use Rattle.dt_tree_builder.proofs.Standing.{listed-both}
-use Rattle.dt_overlay_meaning.specs.Shifted.{Value}
-use Rattle.dt_overlay_meaning.specs.Applied.{symbol_path, with_node, with_symbol_at, with_symbols}
-use Rattle.dt_overlay_meaning.specs.Texts.{ended_path}
+use Rattle.dt_live.proofs.BuilderLemmas.PathFacts.{or-false, same-is, same-itself}
+use Rattle.dt_live.proofs.BuilderLemmas.Standing.{listed-both}
+use Rattle.dt_source.specs.OverlayMeaning.Shifted.{Value}
+use Rattle.dt_source.specs.OverlayMeaning.Applied.{symbol_path, with_node, with_symbol_at, with_symbols}
+use Rattle.dt_source.specs.OverlayMeaning.Texts.{ended_path}
 use Rattle.dt_overlay.specs.Union.{Map, with_symbol, with_symbols_node}
 use Rattle.dt_overlay.specs.Union as union
 use Rattle.dt_overlay.proofs.UnionPaths.{named, named-held}

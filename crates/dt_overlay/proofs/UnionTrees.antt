@@ -12,19 +12,19 @@ use Rattle.dt_tree.specs.Preorder.{paths_among}
 use Rattle.dt_tree.specs.Sound.{are_distinct, IsSound}
 use Rattle.dt_tree.specs.TreeData.{TreeData, IsTree}
 use Rattle.dt_tree.proofs.Places.{inside, is_path_map}
-use Rattle.dt_meaning.specs.Paths.{Path, same_path, is_listed, name_below}
-use Rattle.dt_meaning.specs.References.{held}
-use Rattle.dt_meaning.specs.Resolved.{Resolved}
-use Rattle.dt_meaning.specs.MapOf.{is_there, map_of, value_in}
-use Rattle.dt_tree_builder.specs.Lists.{below_child, defined_among, defined_at, lists_of}
-use Rattle.dt_tree_builder.proofs.PathFacts.{child-is, not-deep, or-false, or-right, same-itself}
-use Rattle.dt_tree_builder.proofs.Standing.{listed-both}
-use Rattle.dt_tree_builder.proofs.TreeLists.{map-lists}
-use Rattle.dt_tree_builder.proofs.TreeNodes.{tree-nodes}
-use Rattle.dt_overlay_meaning.specs.Fault.{Fault}
-use Rattle.dt_overlay_meaning.specs.Shifted.{Value, fragments, path_phandles, phandle_of, phandles, shifted_overlay}
-use Rattle.dt_overlay_meaning.specs.Applied.{first_with, overlay_result, standing, target, target_by, with_fragment, with_symbols}
-use Rattle.dt_overlay_meaning.specs.Texts.{ended_path}
+use Rattle.dt_source.specs.TreeMeaning.Paths.{Path, same_path, is_listed, name_below}
+use Rattle.dt_source.specs.TreeMeaning.References.{held}
+use Rattle.dt_source.specs.TreeMeaning.Resolved.{Resolved}
+use Rattle.dt_source.specs.TreeMeaning.MapOf.{is_there, map_of, value_in}
+use Rattle.dt_live.specs.Builder.Lists.{below_child, defined_among, defined_at, lists_of}
+use Rattle.dt_live.proofs.BuilderLemmas.PathFacts.{child-is, not-deep, or-false, or-right, same-itself}
+use Rattle.dt_live.proofs.BuilderLemmas.Standing.{listed-both}
+use Rattle.dt_live.proofs.BuilderLemmas.TreeLists.{map-lists}
+use Rattle.dt_live.proofs.BuilderLemmas.TreeNodes.{tree-nodes}
+use Rattle.dt_source.specs.OverlayMeaning.Fault.{Fault}
+use Rattle.dt_source.specs.OverlayMeaning.Shifted.{Value, fragments, path_phandles, phandle_of, phandles, shifted_overlay}
+use Rattle.dt_source.specs.OverlayMeaning.Applied.{first_with, overlay_result, standing, target, target_by, with_fragment, with_symbols}
+use Rattle.dt_source.specs.OverlayMeaning.Texts.{ended_path}
 use Rattle.dt_overlay.specs.Applied.{IsApplied}
 use Rattle.dt_overlay.specs.Union.{AreStacked, IsRefused, IsUnion, IsWhy, symbols_in, united}
 use Rattle.dt_overlay.specs.Union as union

@@ -5,14 +5,14 @@ use Rattle.dt_tree.specs.NodeData.{NodeData}
 use Rattle.dt_tree.specs.PathMap.{path_map, tree_map}
 use Rattle.dt_tree.specs.Sound.{IsSound}
 use Rattle.dt_tree.specs.TreeData.{TreeData}
-use Rattle.dt_meaning.specs.MapOf.{map_of}
-use Rattle.dt_meaning.specs.Resolved.{Resolved}
-use Rattle.dt_tree_builder.specs.Lists.{lists_of}
-use Rattle.dt_tree_builder.specs.Sizes.{size_in, size_below}
-use Rattle.dt_overlay_meaning.specs.Fault.{Fault}
-use Rattle.dt_overlay_meaning.specs.Applied.{overlay_result}
-use Rattle.dt_fixup.specs.declared.error.OverlayError.{OverlayError}
-use Rattle.dt_fixup.specs.OverlayFault.{IsFault}
+use Rattle.dt_source.specs.TreeMeaning.MapOf.{map_of}
+use Rattle.dt_source.specs.TreeMeaning.Resolved.{Resolved}
+use Rattle.dt_live.specs.Builder.Lists.{lists_of}
+use Rattle.dt_live.specs.Builder.Sizes.{size_in, size_below}
+use Rattle.dt_source.specs.OverlayMeaning.Fault.{Fault}
+use Rattle.dt_source.specs.OverlayMeaning.Applied.{overlay_result}
+use Rattle.dt_overlay.specs.declared.fixup.error.OverlayError.{OverlayError}
+use Rattle.dt_overlay.specs.Fixup.OverlayFault.{IsFault}
 
 -- the tree is the base with the overlay applied; its reservations and its processor are the base's
 pub record IsApplied (base over t : TreeData) : Type 0 where

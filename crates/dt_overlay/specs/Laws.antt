@@ -4,12 +4,12 @@ use Rattle.dt_tree.specs.NodeData.{NodeData}
 use Rattle.dt_tree.specs.PathMap.{path_map}
 use Rattle.dt_tree.specs.Sound.{IsSound}
 use Rattle.dt_tree.specs.TreeData.{TreeData, IsTree}
-use Rattle.dt_meaning.specs.MapOf.{map_of}
-use Rattle.dt_meaning.specs.Resolved.{Resolved}
-use Rattle.dt_tree_builder.specs.Lists.{lists_of}
-use Rattle.dt_overlay_meaning.specs.Fault.{Fault}
-use Rattle.dt_overlay_meaning.specs.Shifted.{shifted_overlay}
-use Rattle.dt_overlay_meaning.specs.Applied.{overlay_result}
+use Rattle.dt_source.specs.TreeMeaning.MapOf.{map_of}
+use Rattle.dt_source.specs.TreeMeaning.Resolved.{Resolved}
+use Rattle.dt_live.specs.Builder.Lists.{lists_of}
+use Rattle.dt_source.specs.OverlayMeaning.Fault.{Fault}
+use Rattle.dt_source.specs.OverlayMeaning.Shifted.{shifted_overlay}
+use Rattle.dt_source.specs.OverlayMeaning.Applied.{overlay_result}
 use Rattle.dt_overlay.specs.Applied.{IsApplied}
 use Rattle.dt_overlay.specs.Union.{IsRefused, IsUnion}
 

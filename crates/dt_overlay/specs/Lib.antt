@@ -1,4 +1,5 @@
 pub mod Applied
+pub mod Fixup
 pub mod Laws
 pub mod Private
 pub mod ShiftedPlaces

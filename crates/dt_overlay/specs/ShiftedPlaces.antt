@@ -6,11 +6,11 @@ use Rattle.std.specs.List.{filter, list_any, flat_map}
 use Rattle.std.specs.Str.{bytes_eq}
 use Rattle.std.specs.Int.{to_be_bytes, w32}
 use Rattle.dt_tree.specs.Phandle.{is_reserved, phandle_in}
-use Rattle.dt_meaning.specs.Paths.{Path, same_path}
-use Rattle.dt_meaning.specs.Resolved.{Resolved}
-use Rattle.dt_meaning.specs.MapOf.{value_in}
-use Rattle.dt_overlay_meaning.specs.Fault.{Fault}
-use Rattle.dt_overlay_meaning.specs.Shifted.{Value, Site, Fixup, site, cells, fixups_in, is_fixups, is_local_fixup, number_at, shift, shifted_overlay, symbol_phandle}
+use Rattle.dt_source.specs.TreeMeaning.Paths.{Path, same_path}
+use Rattle.dt_source.specs.TreeMeaning.Resolved.{Resolved}
+use Rattle.dt_source.specs.TreeMeaning.MapOf.{value_in}
+use Rattle.dt_source.specs.OverlayMeaning.Fault.{Fault}
+use Rattle.dt_source.specs.OverlayMeaning.Shifted.{Value, Site, Fixup, site, cells, fixups_in, is_fixups, is_local_fixup, number_at, shift, shifted_overlay, symbol_phandle}
 
 -- ---- the places that an overlay names
 -- a value of `__local_fixups__` has the offsets in the property of its name, of the node at the path below

@@ -8,15 +8,15 @@ use Rattle.dt_tree.specs.Path.{path_text}
 use Rattle.dt_tree.specs.NodeData.{NodeData}
 use Rattle.dt_tree.specs.PathMap.{PathMap, path_map}
 use Rattle.dt_tree.specs.Preorder.{part_below}
-use Rattle.dt_meaning.specs.MapOf.{map_of}
-use Rattle.dt_meaning.specs.Names.{overlay_name, symbols_name}
-use Rattle.dt_meaning.specs.Paths.{Path, same_path}
-use Rattle.dt_meaning.specs.Resolved.{Resolved}
-use Rattle.dt_tree_builder.specs.Lists.{lists_of}
-use Rattle.dt_overlay_meaning.specs.Applied.{symbol_path, target}
-use Rattle.dt_overlay_meaning.specs.Fault.{Fault, NoTarget, PhandleClash, TooDeep}
-use Rattle.dt_overlay_meaning.specs.Shifted.{Value, fragments, shifted_overlay}
-use Rattle.dt_overlay_meaning.specs.Texts.{ended_path}
+use Rattle.dt_source.specs.TreeMeaning.MapOf.{map_of}
+use Rattle.dt_source.specs.TreeMeaning.Names.{overlay_name, symbols_name}
+use Rattle.dt_source.specs.TreeMeaning.Paths.{Path, same_path}
+use Rattle.dt_source.specs.TreeMeaning.Resolved.{Resolved}
+use Rattle.dt_live.specs.Builder.Lists.{lists_of}
+use Rattle.dt_source.specs.OverlayMeaning.Applied.{symbol_path, target}
+use Rattle.dt_source.specs.OverlayMeaning.Fault.{Fault, NoTarget, PhandleClash, TooDeep}
+use Rattle.dt_source.specs.OverlayMeaning.Shifted.{Value, fragments, shifted_overlay}
+use Rattle.dt_source.specs.OverlayMeaning.Texts.{ended_path}
 
 abbrev pub Map : Type 0
 Map = PathMap (List ℕ)

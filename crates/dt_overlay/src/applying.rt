@@ -1,24 +1,24 @@
 //! An overlay, applied to a base.
 ghost use Rattle.std.specs.Prelude.{◌≡◌, ◌<◌, ◌-◌, ◌^◌, [], IfOk, MatchOption};
-ghost use Rattle.dt_overlay_meaning.specs.Shifted.{shifted_overlay};
-ghost use Rattle.dt_tree_builder.specs.Lists.{lists_of};
-ghost use Rattle.dt_tree_builder.specs.Standing.{AreNodes};
+ghost use Rattle.dt_source.specs.OverlayMeaning.Shifted.{shifted_overlay};
+ghost use Rattle.dt_live.specs.Builder.Lists.{lists_of};
+ghost use Rattle.dt_live.specs.Builder.Standing.{AreNodes};
 ghost use Rattle.dt_live.specs.Flattened.{IsOrdered, IsWhole, lists};
-ghost use Rattle.dt_fixup.specs.OverlayFault.{Gives};
-ghost use Rattle.dt_fixup.specs.PatchedOverlay.{IsPatched, patched_lists};
+ghost use Rattle.dt_overlay.specs.Fixup.OverlayFault.{Gives};
+ghost use Rattle.dt_overlay.specs.Fixup.PatchedOverlay.{IsPatched, patched_lists};
 ghost use Rattle.dt_overlay.specs.Applied.{Applies, AppliesWithin, applied_lists};
 ghost use Rattle.dt_overlay.specs.Private.Additions.{AreItsSymbols};
 ghost use Rattle.dt_overlay.specs.Private.Applying.{AnswersRoot, Exceeds, Fits, HasMap};
 ghost use Rattle.dt_overlay.specs.Private.Fragments.{AreItsFragments};
 ghost use Rattle.dt_overlay.specs.Private.Symbols.{applied_rows};
 
+use crate::fixup::{OverlayError, PatchedOverlay, shift};
 use crate::fragments::{Fragment, find_fragments};
 use crate::making::{make, total_size};
 use crate::merging::merge_fragments;
 use crate::symbol_sizes::symbols_size;
 use crate::symbol_target::row_targets;
 use crate::symbols::{Symbol, find_symbols, put_symbols};
-use dt_fixup::{OverlayError, PatchedOverlay, shift};
 use dt_live::{LiveTree, flatten};
 use dt_tree::{Node, Tree};
 use std::alloc::{AllocError, Global};

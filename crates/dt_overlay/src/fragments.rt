@@ -2,12 +2,12 @@
 ghost use Rattle.std.specs.Prelude.{◌≡◌, ◌<◌, IfOk, OnOk, length, option_map};
 ghost use Rattle.dt_live.specs.Rows.{IsNode, node_path};
 ghost use Rattle.dt_live.specs.Flattened.{IsOrdered, IsWhole, lists};
-ghost use Rattle.dt_overlay_meaning.specs.Applied.{standing};
-ghost use Rattle.dt_overlay_meaning.specs.Texts.{ended_path};
-ghost use Rattle.dt_fixup.specs.PatchedOverlay.{IsPatched};
+ghost use Rattle.dt_source.specs.OverlayMeaning.Applied.{standing};
+ghost use Rattle.dt_source.specs.OverlayMeaning.Texts.{ended_path};
+ghost use Rattle.dt_overlay.specs.Fixup.PatchedOverlay.{IsPatched};
 ghost use Rattle.dt_overlay.specs.Private.Fragments.{AreItsFragments, ArePhandles, IsBodyAt, IsTarget, NotesFirst, node_by, target_of};
 
-use dt_fixup::{PatchedOverlay, ended_path, row_phandle};
+use crate::fixup::{PatchedOverlay, ended_path, row_phandle};
 use dt_live::LiveTree;
 use dt_tree::cell_in;
 use std::alloc::{AllocError, Global};

@@ -1,9 +1,10 @@
 //! Overlays, applied to trees.
 //!
-//! dtc's dt-object-internal, section 3, and `dt_overlay_meaning` say what is made.
+//! dtc's dt-object-internal, section 3, and `dt_source::overlay_meaning` say what is made.
 #![tactic(auto)]
 
 mod applying;
+pub mod fixup;
 mod fragments;
 mod laws;
 mod making;
@@ -13,6 +14,6 @@ mod symbol_sizes;
 mod symbol_target;
 mod symbols;
 
+pub use crate::fixup::OverlayError;
 pub use applying::{apply, apply_within};
-pub use dt_fixup::OverlayError;
 pub use laws::{refusal_is_of_a_fragment, result_is_union, shifted_by_places};

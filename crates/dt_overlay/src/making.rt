@@ -1,15 +1,15 @@
 //! The tree of a live tree.
 ghost use Rattle.std.specs.Prelude.{◌≡◌, ◌-◌, ◌^◌, [], IfOk, length, map, min};
 ghost use Rattle.dt_tree.specs.PathMap.{path_map};
-ghost use Rattle.dt_meaning.specs.MapOf.{map_of};
-ghost use Rattle.dt_tree_builder.specs.Standing.{AreNodes};
-ghost use Rattle.dt_tree_builder.specs.Sizes.{size_in};
+ghost use Rattle.dt_source.specs.TreeMeaning.MapOf.{map_of};
+ghost use Rattle.dt_live.specs.Builder.Standing.{AreNodes};
+ghost use Rattle.dt_live.specs.Builder.Sizes.{size_in};
 ghost use Rattle.dt_live.specs.ByRow.{lent};
 ghost use Rattle.dt_live.specs.Flattened.{IsWhole, lists};
 ghost use Rattle.dt_overlay.specs.Private.Making.{copied};
 
+use dt_live::making::{Values, make_nodes};
 use dt_live::{LiveTree, PropertyRow, preorder_of};
-use dt_making::{Values, make_nodes};
 use dt_tree::{Bytes, Node};
 use std::alloc::{AllocError, Global};
 

@@ -3,13 +3,13 @@ ghost use Rattle.std.specs.Prelude.{◌≡◌, ◌+◌, OnOk, length};
 ghost use Rattle.dt_live.specs.ByRow.{KeepsRows};
 ghost use Rattle.dt_live.specs.Rows.{IsLiveTree, state_of};
 ghost use Rattle.dt_live.specs.Flattened.{IsOrdered, IsWhole};
-ghost use Rattle.dt_fixup.specs.PatchedOverlay.{IsPatched};
+ghost use Rattle.dt_overlay.specs.Fixup.PatchedOverlay.{IsPatched};
 ghost use Rattle.dt_overlay.specs.Private.Fragments.{AreItsFragments};
 ghost use Rattle.dt_overlay.specs.Private.Merging.{AreKept, IsMergeable, MergesAll, MergesFragment};
 
+use crate::fixup::{OverlayError, PatchedOverlay};
 use crate::fragments::Fragment;
 use crate::part::merge_part;
-use dt_fixup::{OverlayError, PatchedOverlay};
 use dt_live::LiveTree;
 use std::alloc::Global;
 

@@ -3,10 +3,10 @@ ghost use Rattle.std.specs.Prelude.{◌≡◌, ◌+◌, IfOk, OnOk, length, slic
 ghost use Rattle.dt_live.specs.ByRow.{KeepsRows};
 ghost use Rattle.dt_live.specs.Rows.{HasSameNodes, IsLiveTree, IsNode, is_standing, node_path, state_of};
 ghost use Rattle.dt_live.specs.Flattened.{IsOrdered, lists};
-ghost use Rattle.dt_fixup.specs.PatchedOverlay.{IsPatched};
+ghost use Rattle.dt_overlay.specs.Fixup.PatchedOverlay.{IsPatched};
 ghost use Rattle.dt_overlay.specs.Private.Merging.{AreByNode, AreKept, ArePartNodes, DefinesPart, IsFirst, IsPart, IsPartOf, MergesPart, NotesBaseNodes, SetsPart, has_clash, is_clash, is_deep, part_at};
 
-use dt_fixup::{OverlayError, PatchedOverlay};
+use crate::fixup::{OverlayError, PatchedOverlay};
 use dt_live::{LiveTree, PropertyRow};
 use dt_tree::MAX_DEPTH;
 use std::alloc::AllocError;

@@ -1,16 +1,16 @@
 //! How long an overlay's symbols are, before any is made.
 ghost use Rattle.std.specs.Prelude.{◌≡◌, ◌-◌, ◌^◌, ◌<◌, ◌≤◌, [], ◌∷◌, length, min};
-ghost use Rattle.dt_meaning.specs.Names.{symbols_name};
-ghost use Rattle.dt_meaning.specs.Paths.{same_path};
+ghost use Rattle.dt_source.specs.TreeMeaning.Names.{symbols_name};
+ghost use Rattle.dt_source.specs.TreeMeaning.Paths.{same_path};
 ghost use Rattle.dt_live.specs.Rows.{IsGrown, path_of};
-ghost use Rattle.dt_tree_builder.specs.Sizes.{size_in};
+ghost use Rattle.dt_live.specs.Builder.Sizes.{size_in};
 ghost use Rattle.dt_live.specs.Flattened.{IsWhole};
-ghost use Rattle.dt_fixup.specs.PatchedOverlay.{IsPatched};
+ghost use Rattle.dt_overlay.specs.Fixup.PatchedOverlay.{IsPatched};
 ghost use Rattle.dt_overlay.specs.Private.Symbols.{symbol_said, symbols_over, text_below};
 ghost use Rattle.dt_overlay.specs.Private.SymbolTargets.{AreTargets};
 
+use crate::fixup::PatchedOverlay;
 use crate::symbol_target::symbol_target;
-use dt_fixup::PatchedOverlay;
 use dt_live::{LiveTree, NodeRow, is_root_child, names_size};
 
 /// How many bytes the symbols' values have together, or the greatest number where there are more. Takes no memory.

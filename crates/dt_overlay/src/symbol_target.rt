@@ -3,11 +3,11 @@ ghost use Rattle.std.specs.Prelude.{◌≡◌, ◌∷◌, length, slice_index_or
 ghost use Rattle.std.specs.List.{slice_split};
 ghost use Rattle.dt_tree.specs.Path.{behind_slashes, is_slash, path_names};
 ghost use Rattle.dt_live.specs.Flattened.{IsOrdered};
-ghost use Rattle.dt_fixup.specs.PatchedOverlay.{IsPatched};
+ghost use Rattle.dt_overlay.specs.Fixup.PatchedOverlay.{IsPatched};
 ghost use Rattle.dt_overlay.specs.Private.SymbolTargets.{AreTargetsOf, IsSplit, LeadsTo, names_after, no_fragment};
 
+use crate::fixup::{PatchedOverlay, ended_path};
 use crate::fragments::{Fragment, fragment_body};
-use dt_fixup::{PatchedOverlay, ended_path};
 use std::alloc::{AllocError, Global};
 
 /// The base's nodes that fragments target, by the fragments' rows in the overlay.

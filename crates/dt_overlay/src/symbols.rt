@@ -4,13 +4,13 @@ ghost use Rattle.dt_tree.specs.Name.{is_name};
 ghost use Rattle.dt_live.specs.ByRow.{KeepsRows};
 ghost use Rattle.dt_live.specs.Rows.{IsLiveTree, IsGrown, state_of};
 ghost use Rattle.dt_live.specs.Flattened.{IsWhole, lists};
-ghost use Rattle.dt_fixup.specs.PatchedOverlay.{IsPatched};
+ghost use Rattle.dt_overlay.specs.Fixup.PatchedOverlay.{IsPatched};
 ghost use Rattle.dt_overlay.specs.Private.SymbolTargets.{AreTargets};
 ghost use Rattle.dt_overlay.specs.Private.Symbols.{PutsSymbol, symbol_by_row, symbol_value, symbols_over, text_below, values_in, with_all};
 
+use crate::fixup::PatchedOverlay;
 use crate::symbol_sizes::{is_symbols_node, text_size};
 use crate::symbol_target::symbol_target;
-use dt_fixup::PatchedOverlay;
 use dt_live::{LiveTree, NodeRow, append_names};
 use std::alloc::{AllocError, Global};
 

@@ -9,7 +9,7 @@ use Rattle.dt_blob.specs.HeaderWords.{strings_of, structure_of, structure_size_i
 use Rattle.dt_blob.specs.Holds.{Holds, Spells, SpellsRoot, without_nops}
 use Rattle.dt_blob.specs.Token.{Token}
 use Rattle.dt_blob.proofs.Tests.{equal}
-use Rattle.dt_view.specs.declared.view.View.{View}
+use Rattle.dt_patch.specs.declared.view.view.View.{View}
 use Rattle.dt_patch.specs.declared.layout.Layout.{Layout}
 use Rattle.dt_patch.specs.declared.splicing.Gap.{Gap}
 use Rattle.dt_patch.specs.declared.splicing.Plan.{Plan}

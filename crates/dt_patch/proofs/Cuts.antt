@@ -19,12 +19,12 @@ use Rattle.dt_tree.proofs.NameLists.{distinct-without, names-without}
 use Rattle.dt_tree.proofs.Places.{IsSoundInside, found_at, inside, node_at-append}
 use Rattle.dt_tree.proofs.StillSound.{child_names-drop, drop_sound, height-drop}
 use Rattle.dt_blob.specs.Token.{Token, begin_node, end_node, property, property_tokens, sibling_tokens, tokens_of}
-use Rattle.dt_view.specs.declared.nodes.NodeOffset.{NodeOffset}
-use Rattle.dt_view.specs.declared.properties.PlacedProperty.{PlacedProperty}
-use Rattle.dt_view.specs.declared.view.View.{View}
-use Rattle.dt_view.specs.Placing.{IsPlaced}
-use Rattle.dt_view.specs.Reaching.{Reached, before_child, before_node, before_property}
-use Rattle.dt_view.proofs.Levels.{before_last, child_own, within}
+use Rattle.dt_patch.specs.declared.view.nodes.NodeOffset.{NodeOffset}
+use Rattle.dt_patch.specs.declared.view.properties.PlacedProperty.{PlacedProperty}
+use Rattle.dt_patch.specs.declared.view.view.View.{View}
+use Rattle.dt_patch.specs.View.Placing.{IsPlaced}
+use Rattle.dt_patch.specs.View.Reaching.{Reached, before_child, before_node, before_property}
+use Rattle.dt_patch.proofs.ViewLemmas.Levels.{before_last, child_own, within}
 use Rattle.dt_patch.specs.declared.splicing.Span.{Span}
 use Rattle.dt_patch.specs.Adding.{IsWithNode, with_first_child}
 use Rattle.dt_patch.specs.Private.Cutting.{Comes}

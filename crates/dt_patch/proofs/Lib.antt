@@ -17,3 +17,4 @@ mod Slashes
 mod Splices
 mod Trees
 mod Values
+pub mod ViewLemmas

@@ -10,7 +10,7 @@ use Rattle.dt_blob.specs.HeaderWords.{structure_of, word_at}
 use Rattle.dt_blob.specs.Holds.{Holds, Reserves, SpellsRoot}
 use Rattle.dt_blob.proofs.Sizes.{length-double_word}
 use Rattle.dt_blob.proofs.Tests.{both, equal, test_below, test_not_below}
-use Rattle.dt_view.specs.Reserved.{reserved_size}
+use Rattle.dt_patch.specs.View.Reserved.{reserved_size}
 use Rattle.dt_patch.specs.declared.error.PatchError.TheVariants.{EndPair, NoReservation, Unordered}
 use Rattle.dt_patch.specs.declared.layout.Layout.{Layout}
 use Rattle.dt_patch.specs.declared.reserving.ReserveList.{ReserveList}

@@ -24,7 +24,7 @@ use Rattle.dt_patch.specs.Setting.{HoldsWith, change_fault, or_short, property_s
 use Rattle.dt_patch.proofs.Changed.{are_apart, held_changed, strings_long}
 use Rattle.dt_patch.proofs.Named.{IsAdded, is_added}
 use Rattle.dt_patch.proofs.Rooms.{room_of, spliced_in}
-use Rattle.dt_view.proofs.Spellings.{alone}
+use Rattle.dt_patch.proofs.ViewLemmas.Spellings.{alone}
 
 -- ---- a property as bytes
 

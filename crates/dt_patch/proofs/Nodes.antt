@@ -7,7 +7,7 @@ use Rattle.dt_blob.specs.Blob.{padding}
 use Rattle.dt_blob.specs.Holds.{Spells}
 use Rattle.dt_blob.specs.Token.{begin_node, end_node}
 use Rattle.dt_blob.proofs.Sizes.{length-padding, length-word}
-use Rattle.dt_view.proofs.Spellings.{alone}
+use Rattle.dt_patch.proofs.ViewLemmas.Spellings.{alone}
 use Rattle.dt_patch.specs.Adding.{node_size}
 use Rattle.dt_patch.specs.Private.Cutting.{node_bytes}
 use Rattle.dt_patch.specs.Private.Places.{put_at}

@@ -12,14 +12,14 @@ use Rattle.dt_blob.specs.BigEndian.{word}
 use Rattle.dt_blob.specs.Holds.{Spells, SpellsToken, is_nop, without_nops}
 use Rattle.dt_blob.specs.Token.{Token, begin_node, property, property_tokens}
 use Rattle.dt_blob.proofs.Sizes.{length-word}
-use Rattle.dt_view.specs.declared.nodes.NodeOffset.{NodeOffset}
-use Rattle.dt_view.specs.declared.view.View.{View}
-use Rattle.dt_view.specs.Reaching.{IsSpelled, Reached, before_node, before_property}
+use Rattle.dt_patch.specs.declared.view.nodes.NodeOffset.{NodeOffset}
+use Rattle.dt_patch.specs.declared.view.view.View.{View}
+use Rattle.dt_patch.specs.View.Reaching.{IsSpelled, Reached, before_node, before_property}
 use Rattle.dt_patch.specs.declared.splicing.Span.{Span}
 use Rattle.dt_patch.specs.Private.Places.{IsNodeOf}
 use Rattle.dt_patch.specs.Private.Planning.{IsEnd, IsSetSpan, Lies}
 use Rattle.dt_patch.specs.Setting.{old_size, place_fault, property_size}
-use Rattle.dt_view.proofs.Spellings.{alone, joined, kept_append}
+use Rattle.dt_patch.proofs.ViewLemmas.Spellings.{alone, joined, kept_append}
 use Rattle.dt_patch.proofs.Trees.{add_turns, property_set, set, set_turns, tree_with, turns_at}
 
 -- ---- from a token to the one behind it

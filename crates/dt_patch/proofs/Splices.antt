@@ -5,7 +5,7 @@ use Rattle.dt_tree.specs.NodeData.{NodeData}
 use Rattle.dt_blob.specs.Holds.{Names, Spells, SpellsRoot, SpellsToken, without_nops}
 use Rattle.dt_blob.specs.Steps.NodeBuilders.{is_end}
 use Rattle.dt_blob.specs.Token.{Token, begin_node, end_node, nop, end, property, tokens_of}
-use Rattle.dt_view.proofs.Spellings.{alone, joined, kept_append, rest_of}
+use Rattle.dt_patch.proofs.ViewLemmas.Spellings.{alone, joined, kept_append, rest_of}
 
 -- ---- the end of the block
 

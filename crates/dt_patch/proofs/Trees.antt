@@ -16,8 +16,8 @@ use Rattle.dt_tree.proofs.ChangeLaws.{map-set}
 use Rattle.dt_tree.proofs.Places.{IsSoundInside, inside}
 use Rattle.dt_tree.proofs.StillSound.{put_sound}
 use Rattle.dt_blob.specs.Token.{Token, begin_node, end_node, property, property_tokens, sibling_tokens, tokens_of}
-use Rattle.dt_query.specs.Set.{IsWithProperty}
-use Rattle.dt_view.specs.Reaching.{before_child, before_node, before_property}
+use Rattle.dt_blob.specs.Query.Set.{IsWithProperty}
+use Rattle.dt_patch.specs.View.Reaching.{before_child, before_node, before_property}
 
 -- ---- tokens
 

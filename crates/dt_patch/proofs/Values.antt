@@ -11,11 +11,11 @@ use Rattle.dt_blob.specs.Holds.{Holds, Pads, SpellsRoot, SpellsToken, is_structu
 use Rattle.dt_blob.specs.Token.{property}
 use Rattle.dt_blob.proofs.Sizes.{length-word}
 use Rattle.dt_blob.proofs.Tests.{equal, test_equal}
-use Rattle.dt_view.specs.declared.properties.PlacedProperty.{PlacedProperty}
-use Rattle.dt_view.specs.declared.view.View.{View}
-use Rattle.dt_view.specs.Placing.{IsPlaced}
-use Rattle.dt_view.specs.Reserved.{reserved_size}
-use Rattle.dt_view.specs.Shows.{IsOver, Views}
+use Rattle.dt_patch.specs.declared.view.properties.PlacedProperty.{PlacedProperty}
+use Rattle.dt_patch.specs.declared.view.view.View.{View}
+use Rattle.dt_patch.specs.View.Placing.{IsPlaced}
+use Rattle.dt_patch.specs.View.Reserved.{reserved_size}
+use Rattle.dt_patch.specs.View.Shows.{IsOver, Views}
 use Rattle.dt_patch.specs.Order.{is_ordered}
 use Rattle.dt_patch.specs.Private.Places.{IsPropertyOf, IsValuePlace, put_at}
 use Rattle.dt_patch.specs.Setting.{HoldsWith}

@@ -10,7 +10,7 @@ use Rattle.dt_tree.specs.PathMap.{PathMap, node_at, tree_map}
 use Rattle.dt_tree.specs.Sound.{is_among}
 use Rattle.dt_tree.specs.TreeData.{TreeData, IsTree}
 use Rattle.dt_blob.specs.Holds.{Holds}
-use Rattle.dt_view.specs.Reserved.{reserved_size}
+use Rattle.dt_patch.specs.View.Reserved.{reserved_size}
 use Rattle.dt_patch.specs.declared.error.PatchError.{PatchError}
 use Rattle.dt_patch.specs.declared.error.PatchError.TheVariants.{BadName, BadPath, Exists, NoNode, TooDeep}
 use Rattle.dt_patch.specs.Order.{is_ordered}

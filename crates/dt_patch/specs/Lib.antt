@@ -4,3 +4,4 @@ pub mod Private
 pub mod Removing
 pub mod Reserving
 pub mod Setting
+pub mod View

@@ -6,7 +6,7 @@ use Rattle.dt_tree.specs.Path.{is_path, path_names}
 use Rattle.dt_tree.specs.PathMap.{node_at, tree_map, value_of}
 use Rattle.dt_tree.specs.TreeData.{TreeData, IsTree}
 use Rattle.dt_blob.specs.Holds.{Holds}
-use Rattle.dt_view.specs.Reserved.{reserved_size}
+use Rattle.dt_patch.specs.View.Reserved.{reserved_size}
 use Rattle.dt_patch.specs.declared.error.PatchError.{PatchError}
 use Rattle.dt_patch.specs.declared.error.PatchError.TheVariants.{BadPath, NoNode, NoProperty, Root}
 use Rattle.dt_patch.specs.Order.{is_ordered}

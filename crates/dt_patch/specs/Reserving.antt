@@ -1,7 +1,7 @@
 -- What a reservation added to a blob, or taken from it, makes of it: Devicetree Specification v0.4, section 5.3. All else is as it was.
 use Rattle.std.specs.Prelude.{ℕ, ◌+◌, nat_lt, List, [], ◌∷◌, ◌++◌, length, take, drop, Option, Some, None, if◌then◌else◌}
 use Rattle.dt_tree.specs.TreeData.{TreeData, is_reserve, tree_data}
-use Rattle.dt_view.specs.Reserved.{reserved_size}
+use Rattle.dt_patch.specs.View.Reserved.{reserved_size}
 use Rattle.dt_patch.specs.declared.error.PatchError.{PatchError}
 use Rattle.dt_patch.specs.declared.error.PatchError.TheVariants.{EndPair, NoReservation, Unordered}
 use Rattle.dt_patch.specs.Order.{is_ordered}

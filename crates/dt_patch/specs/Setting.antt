@@ -9,8 +9,8 @@ use Rattle.dt_tree.specs.TreeData.{TreeData}
 use Rattle.dt_blob.specs.HeaderWords.{header_of, strings_of}
 use Rattle.dt_blob.specs.Holds.{Holds}
 use Rattle.dt_blob.specs.Strings.{with_name}
-use Rattle.dt_query.specs.Set.{IsWithProperty}
-use Rattle.dt_view.specs.Reserved.{reserved_size}
+use Rattle.dt_blob.specs.Query.Set.{IsWithProperty}
+use Rattle.dt_patch.specs.View.Reserved.{reserved_size}
 use Rattle.dt_patch.specs.declared.error.PatchError.{PatchError}
 use Rattle.dt_patch.specs.declared.error.PatchError.TheVariants.{BadName, BadPath, NoNode, NoProperty, OtherLength, Short, Unordered}
 use Rattle.dt_patch.specs.Order.{is_ordered}

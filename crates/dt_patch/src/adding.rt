@@ -7,8 +7,8 @@ ghost use Rattle.dt_tree.specs.Sound.{is_among};
 ghost use Rattle.dt_tree.specs.TreeData.{TreeData};
 ghost use Rattle.dt_blob.specs.Holds.{Holds};
 ghost use Rattle.dt_blob.specs.Token.{begin_node, end_node};
-ghost use Rattle.dt_view.specs.Shows.{Views};
-ghost use Rattle.dt_view.specs.Standing.{StandsAt};
+ghost use Rattle.dt_patch.specs.View.Shows.{Views};
+ghost use Rattle.dt_patch.specs.View.Standing.{StandsAt};
 ghost use Rattle.dt_patch.specs.Adding.{HoldsWithNode, IsWithNode, add_node_fault, growth_fault, node_size};
 ghost use Rattle.dt_patch.specs.Private.Cutting.{IsChange, Comes, growth_plan_fault, node_bytes};
 ghost use Rattle.dt_patch.specs.Private.Planning.{Lies};
@@ -18,9 +18,9 @@ use crate::error::PatchError;
 use crate::placing::node_place;
 use crate::planning::{end_span, plan_of};
 use crate::splicing::{Plan, Span, splice};
+use crate::view::{NodeOffset, View, held_is_shown};
 use dt_blob::BlobError;
 use dt_tree::{MAX_DEPTH, behind, is_name};
-use dt_view::{NodeOffset, View, held_is_shown};
 
 /// The bytes of an empty node of the longest name: two words, and 255 bytes with a zero byte.
 const NODE_ROOM: usize = 264;

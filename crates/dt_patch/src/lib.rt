@@ -12,6 +12,7 @@ mod removing;
 mod reserving;
 mod setting;
 mod splicing;
+pub mod view;
 
 pub use adding::add_node;
 pub use error::PatchError;

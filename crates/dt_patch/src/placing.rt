@@ -2,15 +2,15 @@
 ghost use Rattle.std.specs.Prelude.{◌≡◌, IfOk, MatchResult, None, Some, ℕ};
 ghost use Rattle.dt_tree.specs.TreeData.{TreeData};
 ghost use Rattle.dt_blob.specs.Holds.{Holds};
-ghost use Rattle.dt_view.specs.Placing.{IsPlaced};
-ghost use Rattle.dt_view.specs.Shows.{Views};
+ghost use Rattle.dt_patch.specs.View.Placing.{IsPlaced};
+ghost use Rattle.dt_patch.specs.View.Shows.{Views};
 ghost use Rattle.dt_patch.specs.Private.Places.{IsNodeOf, IsPropertyOf, IsValuePlace};
 ghost use Rattle.dt_patch.specs.Setting.{path_fault, set_fault, value_fault};
 
 use crate::error::PatchError;
 use crate::layout::ordered_structure;
+use crate::view::{NodeOffset, PlacedProperty, View, ViewError, held_is_shown};
 use dt_blob::BlobError;
-use dt_view::{NodeOffset, PlacedProperty, View, ViewError, held_is_shown};
 
 /// The bytes of a property's token before its value.
 const PROPERTY_HEAD: usize = 12;

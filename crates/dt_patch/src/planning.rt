@@ -6,10 +6,10 @@ ghost use Rattle.dt_tree.specs.TreeData.{TreeData};
 ghost use Rattle.dt_blob.specs.HeaderWords.{header_fault};
 ghost use Rattle.dt_blob.specs.Holds.{Holds};
 ghost use Rattle.dt_blob.specs.Token.{Token};
-ghost use Rattle.dt_view.specs.Reaching.{Reached};
-ghost use Rattle.dt_view.specs.Reserved.{reserved_size};
-ghost use Rattle.dt_view.specs.Shows.{IsOver, Views};
-ghost use Rattle.dt_view.specs.Standing.{StandsAt};
+ghost use Rattle.dt_patch.specs.View.Reaching.{Reached};
+ghost use Rattle.dt_patch.specs.View.Reserved.{reserved_size};
+ghost use Rattle.dt_patch.specs.View.Shows.{IsOver, Views};
+ghost use Rattle.dt_patch.specs.View.Standing.{StandsAt};
 ghost use Rattle.dt_patch.specs.Order.{is_ordered};
 ghost use Rattle.dt_patch.specs.Private.Planning.{IsEnd, IsPlanFor, IsSetPlan, IsSetSpan, Lies, set_plan_fault};
 ghost use Rattle.dt_patch.specs.Setting.{place_fault};
@@ -19,9 +19,9 @@ use crate::layout::{layout_of, ordered_structure};
 use crate::naming::string_place;
 use crate::placing::node_place;
 use crate::splicing::{Plan, Span};
+use crate::view::{NodeOffset, View, held_is_shown};
 use dt_blob::BlobError;
 use dt_tree::is_name;
-use dt_view::{NodeOffset, View, held_is_shown};
 
 /// Where a property is set, and where its name stands in the strings.
 #[derive(Clone, Copy)]

@@ -3,7 +3,7 @@ ghost use Rattle.std.specs.Prelude.{◌≡◌, IfOk, List, ℕ, [], MatchResult,
 ghost use Rattle.dt_tree.specs.Path.{path_names};
 ghost use Rattle.dt_tree.specs.TreeData.{TreeData};
 ghost use Rattle.dt_blob.specs.Holds.{Holds};
-ghost use Rattle.dt_view.specs.Shows.{Views};
+ghost use Rattle.dt_patch.specs.View.Shows.{Views};
 ghost use Rattle.dt_patch.specs.Private.Cutting.{IsChange, Comes};
 ghost use Rattle.dt_patch.specs.Private.Planning.{Lies};
 ghost use Rattle.dt_patch.specs.Removing.{HoldsWithoutNode, HoldsWithoutProperty, IsWithoutNode, IsWithoutProperty, absence_fault, delete_node_fault, delete_property_fault, removal_fault};
@@ -12,8 +12,8 @@ use crate::error::PatchError;
 use crate::placing::{node_place, property_place};
 use crate::planning::plan_of;
 use crate::splicing::{Plan, Span, splice};
+use crate::view::{View, held_is_shown};
 use dt_blob::BlobError;
-use dt_view::{View, held_is_shown};
 
 /// Where the property of a name of the node at a path stands.
 fn property_span(view: &View<'_>, path: &[u8], name: &[u8]) -> Result<Span, PatchError>

@@ -2,7 +2,7 @@
 ghost use Rattle.std.specs.Prelude.{◌≡◌, ◌+◌, ◌<◌, ◌&&◌, ◌==◌, IfOk, MatchResult, None, Some, OnErr, OnOk, false, length, true};
 ghost use Rattle.dt_tree.specs.TreeData.{TreeData};
 ghost use Rattle.dt_blob.specs.Holds.{Holds};
-ghost use Rattle.dt_view.specs.Reserved.{reserved_size};
+ghost use Rattle.dt_patch.specs.View.Reserved.{reserved_size};
 ghost use Rattle.dt_patch.specs.Order.{is_ordered};
 ghost use Rattle.dt_patch.specs.Private.Reservations.{AreListed, IsList, IsPairGap, pairs_wanted};
 ghost use Rattle.dt_patch.specs.Reserving.{reserve_fault, unreserve_fault, with_reservation, without_reservation};
@@ -11,8 +11,8 @@ use crate::bytes::put_long;
 use crate::error::PatchError;
 use crate::layout::{Layout, layout_of, ordered_structure, reserves_at};
 use crate::splicing::{Gap, Span, fill};
+use crate::view::{View, held_is_shown};
 use dt_blob::BlobError;
-use dt_view::{View, held_is_shown};
 
 /// The bytes of an address and a size.
 const PAIR_SIZE: usize = 16;

@@ -2,7 +2,7 @@
 use Rattle.std.proofs.Common.{List, [], ◌∷◌, refl, ap}
 use Rattle.std.specs.List.{AllByRecursion}
 use Rattle.std.proofs.lemmas.List.Elements.{All-from_recursion, recursion_from_All}
-use Rattle.dt_meaning.specs.Syntax.{Piece, Entry, Body, Done, Then}
+use Rattle.dt_source.specs.TreeMeaning.Syntax.{Piece, Entry, Body, Done, Then}
 use Rattle.dt_source.specs.Lawful.{IsLawfulEntry, IsLawfulBody}
 use Rattle.dt_source.specs.BodyLaws.{statements_of, StatementsOfABody, BodyOfItsStatements, BodiesAreLawfulByStatements}
 

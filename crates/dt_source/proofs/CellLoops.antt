@@ -3,14 +3,14 @@ use Rattle.std.proofs.Common.{◌≡◌, ℕ, suc, ◌<◌, List, [], ◌∷◌,
 use Rattle.std.specs.Prelude.{fold, flat_map}
 use Rattle.std.proofs.lemmas.Grind.{fold-append}
 use Rattle.std.proofs.lemmas.List.{append-nil}
-use Rattle.dt_lexeme.specs.declared.lexeme.Lexeme.{Lexeme}
-use Rattle.dt_lexeme.specs.declared.lexeme.Fault.{Fault}
-use Rattle.dt_lexeme.specs.declared.lexeme.Refusal.{Refusal}
-use Rattle.dt_expression.specs.declared.elements.Width.{Width}
+use Rattle.dt_text.specs.declared.lexeme.lexeme.Lexeme.{Lexeme}
+use Rattle.dt_text.specs.declared.lexeme.lexeme.Fault.{Fault}
+use Rattle.dt_text.specs.declared.lexeme.lexeme.Refusal.{Refusal}
+use Rattle.dt_text.specs.declared.expression.elements.Width.{Width}
 use Rattle.dt_source.specs.declared.cell.Cell.{Cell}
-use Rattle.dt_expression.specs.Reading.{◌>>=◌}
+use Rattle.dt_text.specs.Expression.Reading.{◌>>=◌}
 use Rattle.dt_source.specs.Reading.Several.{earlier, Part, many}
-use Rattle.dt_meaning.specs.Syntax.{Piece}
+use Rattle.dt_source.specs.TreeMeaning.Syntax.{Piece}
 use Rattle.dt_source.specs.Reading.Values.{Built, put, put_all}
 use Rattle.dt_source.specs.Pieces.{cell_fault, cell_pieces, cells_pieces}
 use Rattle.dt_source.specs.Reading.Bodies.{cell_at, fault_of_cell, cell_step, stays, cells_at, pair_at, pairs_at}

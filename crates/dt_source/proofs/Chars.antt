@@ -1,9 +1,9 @@
 -- The bytes of a string, one after the other.
 use Rattle.std.proofs.Common.{◌≡◌, ℕ, zero, suc, ◌+◌, ◌<◌, ◌≤◌, List, [], ◌∷◌, ◌++◌, length, get_or, drop, Option, Some, None, Ok, Err, refl, sym, ap, ◌∙◌, append_assoc, arith, add-one, drop-cons}
 use Rattle.std.proofs.lemmas.List.{append-nil}
-use Rattle.dt_lexeme.specs.declared.language.Language.{Language}
-use Rattle.dt_lexeme.specs.declared.lexeme.Fault.{Fault}
-use Rattle.dt_expression.specs.Values.{Value}
+use Rattle.dt_text.specs.declared.lexeme.language.Language.{Language}
+use Rattle.dt_text.specs.declared.lexeme.lexeme.Fault.{Fault}
+use Rattle.dt_text.specs.Expression.Values.{Value}
 use Rattle.dt_source.specs.Reading.Several.{earlier}
 use Rattle.dt_source.specs.Order.{first_of}
 use Rattle.dt_source.specs.Strings.{char_step, with_char, chars_with, numbers, faults, char_number, char_fault}

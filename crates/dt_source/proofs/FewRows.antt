@@ -1,16 +1,16 @@
 -- A source has no more items, statements and labels than its text has bytes.
 use Rattle.std.proofs.Common.{ℕ, zero, suc, ◌+◌, ◌<◌, ◌≤◌, Bool, true, false, List, [], ◌∷◌, length, map, ap, subst, arith}
 use Rattle.std.proofs.lemmas.List.{length-map}
-use Rattle.dt_lexeme.specs.declared.language.Language.{Language}
-use Rattle.dt_lexeme.specs.declared.lexeme.Lexeme.{Lexeme}
-use Rattle.dt_lexeme.specs.declared.lexeme.Kind.TheVariants.{Name, Semicolon, Brace, EndBrace, DeleteNode, DeleteProperty, OmitIfNoRef, Slash}
-use Rattle.dt_lexeme.proofs.InOrder.{lexemes_few}
-use Rattle.dt_expression.proofs.Complete.{begins_shorter}
+use Rattle.dt_text.specs.declared.lexeme.language.Language.{Language}
+use Rattle.dt_text.specs.declared.lexeme.lexeme.Lexeme.{Lexeme}
+use Rattle.dt_text.specs.declared.lexeme.lexeme.Kind.TheVariants.{Name, Semicolon, Brace, EndBrace, DeleteNode, DeleteProperty, OmitIfNoRef, Slash}
+use Rattle.dt_text.proofs.LexemeLemmas.InOrder.{lexemes_few}
+use Rattle.dt_text.proofs.ExpressionLemmas.Complete.{begins_shorter}
 use Rattle.dt_source.specs.Sequences.{SpellsEach}
 use Rattle.dt_source.specs.Marks.{is_label, labels_in}
 use Rattle.dt_source.specs.Words.{label_bytes}
 use Rattle.std.specs.Prelude.{if◌then◌else◌}
-use Rattle.dt_meaning.specs.Syntax.{body_of, Meaning}
+use Rattle.dt_source.specs.TreeMeaning.Syntax.{body_of, Meaning}
 use Rattle.dt_source.specs.Source.{Statements, End, Sets, Unsets, Holds, Drops, ItemTree, Root, Extend, Delete, Omit, SourceTree, SpellsLabels, SpellsMarks, SpellsStatements, SpellsBody, SpellsItem, SpellsHeader, SpellsReserve, Spells, entries_of, item_said, said}
 use Rattle.dt_source.specs.Parse.{Says}
 use Rattle.dt_source.specs.Counts.{body_count, edit_count, how_many}

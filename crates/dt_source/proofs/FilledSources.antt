@@ -3,11 +3,11 @@ use Rattle.std.proofs.Common.{◌≡◌, ℕ, ◌+◌, Bool, true, false, List, 
 use Rattle.std.specs.Prelude.{All, IsTrue, if◌then◌else◌}
 use Rattle.std.specs.List.{AllByRecursion}
 use Rattle.std.proofs.lemmas.List.Elements.{All-from_recursion, recursion_from_All}
-use Rattle.dt_lexeme.specs.declared.lexeme.Refusal.{Refusal}
-use Rattle.dt_expression.specs.Reading.{◌>>=◌}
-use Rattle.dt_expression.proofs.Sound.{bind_ok}
-use Rattle.dt_meaning.specs.Syntax.{Piece, Plain, PhandleOf, PathOf, Stored, Entry, Defines, Undefines, Child, Removes, Body, Done, Then, body_of, Edit, Rooted, Extends, Deletes, Omits}
-use Rattle.dt_lexeme.specs.declared.binary.Binary.{Binary}
+use Rattle.dt_text.specs.declared.lexeme.lexeme.Refusal.{Refusal}
+use Rattle.dt_text.specs.Expression.Reading.{◌>>=◌}
+use Rattle.dt_text.proofs.ExpressionLemmas.Sound.{bind_ok}
+use Rattle.dt_source.specs.TreeMeaning.Syntax.{Piece, Plain, PhandleOf, PathOf, Stored, Entry, Defines, Undefines, Child, Removes, Body, Done, Then, body_of, Edit, Rooted, Extends, Deletes, Omits}
+use Rattle.dt_text.specs.declared.lexeme.binary.Binary.{Binary}
 use Rattle.dt_source.specs.Counts.{entry_count, body_count, edit_count, how_many}
 use Rattle.dt_source.specs.Filled.{Filled, part_of, file_at, filled_piece, filled_each, holds_file, filled_value, filled_entry, filled_body, filled_edit}
 use Rattle.dt_source.specs.Lawful.{IsLawfulPiece, are_joined, IsLawfulEntry, IsLawfulBody, IsLawfulEdit}

@@ -1,10 +1,10 @@
 -- Bodies and items that are filled in, as they are seen.
 use Rattle.std.proofs.Common.{◌≡◌, ℕ, List, map, Result, Ok, Err, ap, ◌∙◌, Vec, Global}
-use Rattle.dt_lexeme.specs.declared.lexeme.ReadError.{ReadError}
-use Rattle.dt_lexeme.specs.declared.lexeme.ReadError.TheVariants as errors
-use Rattle.dt_expression.specs.Reading.{◌>>=◌}
-use Rattle.dt_meaning.specs.Syntax.{Piece, Body, Edit, Rooted, Extends}
-use Rattle.dt_lexeme.specs.declared.binary.Binary.{Binary}
+use Rattle.dt_text.specs.declared.lexeme.lexeme.ReadError.{ReadError}
+use Rattle.dt_text.specs.declared.lexeme.lexeme.ReadError.TheVariants as errors
+use Rattle.dt_text.specs.Expression.Reading.{◌>>=◌}
+use Rattle.dt_source.specs.TreeMeaning.Syntax.{Piece, Body, Edit, Rooted, Extends}
+use Rattle.dt_text.specs.declared.lexeme.binary.Binary.{Binary}
 use Rattle.dt_source.specs.declared.labels.Labels.{Labels}
 use Rattle.dt_source.specs.declared.tree.Reference.{Reference}
 use Rattle.dt_source.specs.declared.tree.Statement.{Statement}

@@ -1,12 +1,12 @@
 -- Filling in parts of files, one after the other.
 use Rattle.std.proofs.Common.{◌≡◌, ℕ, ◌+◌, ◌<◌, ◌≤◌, Bool, true, false, List, [], ◌∷◌, ◌++◌, length, map, take, drop, get_or, slice_set, Ok, Err, refl, sym, ap, ◌∙◌, append_assoc, append-nil, ap₂, take_all, add-one, drop-cons, arith}
 use Rattle.std.proofs.lemmas.List.{take_more_set, drop-set-lt}
-use Rattle.dt_lexeme.specs.declared.lexeme.ReadError.{ReadError}
-use Rattle.dt_lexeme.specs.declared.lexeme.ReadError.TheVariants as errors
-use Rattle.dt_lexeme.specs.declared.lexeme.Refusal.{Refusal}
-use Rattle.dt_expression.specs.Reading.{◌>>=◌}
-use Rattle.dt_meaning.specs.Syntax.{Piece}
-use Rattle.dt_lexeme.specs.declared.binary.Binary.{Binary}
+use Rattle.dt_text.specs.declared.lexeme.lexeme.ReadError.{ReadError}
+use Rattle.dt_text.specs.declared.lexeme.lexeme.ReadError.TheVariants as errors
+use Rattle.dt_text.specs.declared.lexeme.lexeme.Refusal.{Refusal}
+use Rattle.dt_text.specs.Expression.Reading.{◌>>=◌}
+use Rattle.dt_source.specs.TreeMeaning.Syntax.{Piece}
+use Rattle.dt_text.specs.declared.lexeme.binary.Binary.{Binary}
 use Rattle.dt_source.specs.declared.tree.Part.{Part}
 use Rattle.dt_source.specs.Filled.{Filled, filled_piece, filled_each, is_stored, holds_file, filled_value}
 use Rattle.dt_source.specs.Pieces.{joined}

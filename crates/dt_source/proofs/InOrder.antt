@@ -1,18 +1,18 @@
 -- The places of lexemes grow, and so the faults of a source stand in the order of the text.
 use Rattle.std.proofs.Common.{◌≡◌, ℕ, zero, suc, ◌+◌, ◌<◌, ◌≤◌, Bool, true, false, cond, List, [], ◌∷◌, ◌++◌, take, Option, Some, None, Ok, Err, refl, sym, ap, subst, arith, inl, inr, ◌⊎◌}
 use Rattle.std.specs.Prelude.{◌==◌}
-use Rattle.dt_lexeme.specs.declared.lexeme.Lexeme.{Lexeme}
-use Rattle.dt_lexeme.specs.declared.lexeme.Fault.{Fault}
-use Rattle.dt_lexeme.specs.declared.lexeme.Kind.{Kind}
-use Rattle.dt_lexeme.specs.declared.lexeme.Kind.TheVariants.{Character, Slash, Percent}
-use Rattle.dt_lexeme.specs.declared.lexeme.FaultKind.TheVariants.{DivideByZero}
-use Rattle.dt_expression.specs.Character.{character_of}
-use Rattle.dt_expression.specs.Expression.{Expression, Number, Grouped, Prefixed, Infix, Choice, Begins, Takes, Spells}
-use Rattle.dt_expression.specs.Values.{Value, value_of, literal_of, character_at, constant_by, constant_of, inside_of, or_out_of_range, below_64, literal_number, bytes_of, divided, operation, both, prefixed, choice}
+use Rattle.dt_text.specs.declared.lexeme.lexeme.Lexeme.{Lexeme}
+use Rattle.dt_text.specs.declared.lexeme.lexeme.Fault.{Fault}
+use Rattle.dt_text.specs.declared.lexeme.lexeme.Kind.{Kind}
+use Rattle.dt_text.specs.declared.lexeme.lexeme.Kind.TheVariants.{Character, Slash, Percent}
+use Rattle.dt_text.specs.declared.lexeme.lexeme.FaultKind.TheVariants.{DivideByZero}
+use Rattle.dt_text.specs.Expression.Character.{character_of}
+use Rattle.dt_text.specs.Expression.Expression.{Expression, Number, Grouped, Prefixed, Infix, Choice, Begins, Takes, Spells}
+use Rattle.dt_text.specs.Expression.Values.{Value, value_of, literal_of, character_at, constant_by, constant_of, inside_of, or_out_of_range, below_64, literal_number, bytes_of, divided, operation, both, prefixed, choice}
 use Rattle.dt_source.specs.Pieces.{fault_in}
 use Rattle.dt_source.specs.Source.{fault_list}
-use Rattle.dt_lexeme.specs.Order.{Above}
-use Rattle.dt_lexeme.proofs.InOrder.{above_lower}
+use Rattle.dt_text.specs.Lexeme.Order.{Above}
+use Rattle.dt_text.proofs.LexemeLemmas.InOrder.{above_lower}
 
 -- ---- lexemes one behind the other
 

@@ -1,16 +1,16 @@
 -- What a source says names nodes and properties lawfully.
 use Rattle.std.proofs.Common.{ℕ, zero, suc, Bool, true, false, List, [], subst}
 use Rattle.std.proofs.lemmas.List.Elements.{All-map, All-from_recursion}
-use Rattle.dt_lexeme.specs.declared.language.Language.{Language}
-use Rattle.dt_lexeme.specs.declared.lexeme.Lexeme.{Lexeme}
-use Rattle.dt_lexeme.specs.declared.lexeme.Kind.{Kind}
-use Rattle.dt_lexeme.specs.declared.lexeme.Kind.TheVariants.{Name}
-use Rattle.dt_meaning.specs.Syntax.{body_of, Meaning}
+use Rattle.dt_text.specs.declared.lexeme.language.Language.{Language}
+use Rattle.dt_text.specs.declared.lexeme.lexeme.Lexeme.{Lexeme}
+use Rattle.dt_text.specs.declared.lexeme.lexeme.Kind.{Kind}
+use Rattle.dt_text.specs.declared.lexeme.lexeme.Kind.TheVariants.{Name}
+use Rattle.dt_source.specs.TreeMeaning.Syntax.{body_of, Meaning}
 use Rattle.dt_source.specs.Source.{Statements, End, Sets, Unsets, Holds, Drops, ReserveTree, ItemTree, Root, Extend, Delete, Omit, SourceTree, BeginsDeletion, SpellsStatements, SpellsBody, SpellsItem, SpellsReserve, SpellsHeader, Spells, entries_of, item_said, said}
 use Rattle.dt_source.specs.Parse.{Says}
 use Rattle.dt_source.specs.Lawful.{IsLawfulBody, IsLawfulEdit, IsLawful}
-use Rattle.dt_lexeme.specs.Forms.{AllLawful}
-use Rattle.dt_lexeme.proofs.LexemeForms.{lexemes_lawful}
+use Rattle.dt_text.specs.Lexeme.Forms.{AllLawful}
+use Rattle.dt_text.proofs.LexemeLemmas.LexemeForms.{lexemes_lawful}
 use Rattle.dt_source.proofs.LawfulValues.{one_lawful, begins_lawful, reference_lawful, each_lawful, labels_lawful, marks_lawful, drops_lawful, expression_lawful, value_lawful, value_joined}
 
 -- ---- bodies

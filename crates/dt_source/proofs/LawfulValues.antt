@@ -3,24 +3,24 @@ use Rattle.std.proofs.Common.{◌≡◌, refl, Bool, true, false, not, ◌&&◌,
 use Rattle.std.specs.Prelude.{flat_map, All, if◌then◌else◌}
 use Rattle.std.specs.List.{AllByRecursion}
 use Rattle.std.proofs.lemmas.List.Elements.{All-map, All-from_recursion}
-use Rattle.dt_lexeme.specs.declared.language.Language.{Language}
-use Rattle.dt_lexeme.specs.declared.lexeme.Lexeme.{Lexeme}
-use Rattle.dt_lexeme.specs.declared.lexeme.Kind.{Kind}
-use Rattle.dt_lexeme.specs.declared.lexeme.Kind.TheVariants.{Label}
-use Rattle.dt_expression.specs.declared.elements.Width.{Width}
-use Rattle.dt_expression.specs.declared.elements.Width.TheVariants.{ThirtyTwo}
-use Rattle.dt_expression.specs.Expression.{Expression, Number, Grouped, Prefixed, Infix, Choice, Begins, Takes, Spells}
-use Rattle.dt_expression.specs.Values.{Value, value_of}
-use Rattle.dt_expression.specs.Element.{element}
+use Rattle.dt_text.specs.declared.lexeme.language.Language.{Language}
+use Rattle.dt_text.specs.declared.lexeme.lexeme.Lexeme.{Lexeme}
+use Rattle.dt_text.specs.declared.lexeme.lexeme.Kind.{Kind}
+use Rattle.dt_text.specs.declared.lexeme.lexeme.Kind.TheVariants.{Label}
+use Rattle.dt_text.specs.declared.expression.elements.Width.{Width}
+use Rattle.dt_text.specs.declared.expression.elements.Width.TheVariants.{ThirtyTwo}
+use Rattle.dt_text.specs.Expression.Expression.{Expression, Number, Grouped, Prefixed, Infix, Choice, Begins, Takes, Spells}
+use Rattle.dt_text.specs.Expression.Values.{Value, value_of}
+use Rattle.dt_text.specs.Expression.Element.{element}
 use Rattle.dt_source.specs.Sequences.{SpellsEach}
-use Rattle.dt_meaning.specs.Syntax.{Piece, Plain, PhandleOf, PathOf, Stored}
+use Rattle.dt_source.specs.TreeMeaning.Syntax.{Piece, Plain, PhandleOf, PathOf, Stored}
 use Rattle.dt_source.specs.Pieces.{target_by, target_of, width_in, element_pieces, cell_pieces, stored, portion_pieces, joined, join_bytes}
 use Rattle.dt_source.specs.Marks.{is_label, labels_in}
 use Rattle.dt_source.specs.Words.{label_bytes}
 use Rattle.dt_source.specs.Source.{CellTree, Element, Refers, Marks, PortionTree, Whole, Portion, PieceTree, Quoted, Points, Pairs, Cells, WideCells, Includes, One, IsReference, OneReference, OnePair, SpellsLabels, SpellsMarks, DropsLabels, SpellsCell, SpellsCells, SpellsPortion, SpellsPiece, SpellsPlaced, SpellsFurther, SpellsValue, cell_of, cells_said, portion_values, piece_said, value_said, width_said}
-use Rattle.dt_lexeme.specs.Label.{IsLabel}
+use Rattle.dt_text.specs.Lexeme.Label.{IsLabel}
 use Rattle.dt_source.specs.Lawful.{IsLawfulTarget, IsLawfulPiece, has_bytes, begins_plain, are_joined}
-use Rattle.dt_lexeme.specs.Forms.{FormAt, AllLawful}
+use Rattle.dt_text.specs.Lexeme.Forms.{FormAt, AllLawful}
 
 -- ---- the first lexeme
 

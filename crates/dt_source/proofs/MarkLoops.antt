@@ -4,7 +4,7 @@ use Rattle.std.specs.Prelude.{map, if◌then◌else◌}
 use Rattle.std.proofs.lemmas.List.{append-nil, drop_all, take_all, map-append}
 use Rattle.std.proofs.lemmas.List.Elements.{filter_more}
 use Rattle.std.proofs.Math.Seq.{take-suc, drop-cons}
-use Rattle.dt_lexeme.specs.declared.lexeme.Lexeme.{Lexeme}
+use Rattle.dt_text.specs.declared.lexeme.lexeme.Lexeme.{Lexeme}
 use Rattle.dt_source.specs.Marks.{is_label, is_mark, is_omission, omits, labels_in}
 use Rattle.dt_source.specs.Reading.Bodies.{marks_at}
 use Rattle.dt_source.specs.Words.{label_bytes}

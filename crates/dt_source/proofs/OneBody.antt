@@ -1,10 +1,10 @@
 -- Lexemes spell a body in one way alone.
 use Rattle.std.proofs.Common.{◌≡◌, ℕ, zero, suc, Bool, true, false, List, [], ◌∷◌, refl, sym, ap, subst, ◌∙◌}
-use Rattle.dt_lexeme.specs.declared.language.Language.{Language}
-use Rattle.dt_lexeme.specs.declared.lexeme.Lexeme.{Lexeme}
-use Rattle.dt_lexeme.specs.declared.lexeme.Kind.{Kind}
-use Rattle.dt_lexeme.specs.declared.lexeme.Kind.TheVariants.{Name, Semicolon, Brace, EndBrace, DeleteNode, DeleteProperty}
-use Rattle.dt_expression.specs.Expression.{Begins, Deeper}
+use Rattle.dt_text.specs.declared.lexeme.language.Language.{Language}
+use Rattle.dt_text.specs.declared.lexeme.lexeme.Lexeme.{Lexeme}
+use Rattle.dt_text.specs.declared.lexeme.lexeme.Kind.{Kind}
+use Rattle.dt_text.specs.declared.lexeme.lexeme.Kind.TheVariants.{Name, Semicolon, Brace, EndBrace, DeleteNode, DeleteProperty}
+use Rattle.dt_text.specs.Expression.Expression.{Begins, Deeper}
 use Rattle.dt_source.specs.Marks.{is_mark}
 use Rattle.dt_source.specs.Source.{Statements, End, Sets, Unsets, Holds, Drops, PieceTree, One, SpellsMarks, SpellsValue, BeginsDeletion, SpellsStatements, SpellsBody}
 use Rattle.dt_source.proofs.OneEach.{Same, one_takes, one_begins, one_after, one_marks, sorted, sort_marked, begins_sort, takes_sort, no_mark, behind_marks, behind_no_mark}

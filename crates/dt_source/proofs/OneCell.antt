@@ -1,11 +1,11 @@
 -- Lexemes spell cells and byte strings in one way alone.
 use Rattle.std.proofs.Common.{◌≡◌, true, refl, List, sym, ap, ◌∙◌, ◌⊎◌, inl, inr}
-use Rattle.dt_lexeme.specs.declared.lexeme.Lexeme.{Lexeme}
-use Rattle.dt_lexeme.specs.declared.lexeme.Kind.{Kind}
-use Rattle.dt_lexeme.specs.declared.lexeme.Kind.TheVariants.{Label, Literal, Character, Reference, Pair, Less, Greater, Square, EndSquare, Paren}
-use Rattle.dt_expression.specs.Expression.{Expression, Number, Grouped, Prefixed, Infix, Choice, is_number, Begins, Spells, SpellsPrimary}
+use Rattle.dt_text.specs.declared.lexeme.lexeme.Lexeme.{Lexeme}
+use Rattle.dt_text.specs.declared.lexeme.lexeme.Kind.{Kind}
+use Rattle.dt_text.specs.declared.lexeme.lexeme.Kind.TheVariants.{Label, Literal, Character, Reference, Pair, Less, Greater, Square, EndSquare, Paren}
+use Rattle.dt_text.specs.Expression.Expression.{Expression, Number, Grouped, Prefixed, Infix, Choice, is_number, Begins, Spells, SpellsPrimary}
 use Rattle.dt_source.specs.Source.{CellTree, Element, Refers, Marks, IsPair, OnePair, SpellsCell, SpellsCells}
-use Rattle.dt_expression.proofs.Trees.{spells_one}
+use Rattle.dt_text.proofs.ExpressionLemmas.Trees.{spells_one}
 use Rattle.dt_source.proofs.OneEach.{Same, one_takes, one_between, Between, sort, sorted, sort_at, begins_sort, takes_sort, reference_sort}
 
 -- ---- cells

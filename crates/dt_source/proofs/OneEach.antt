@@ -1,9 +1,9 @@
 -- Lexemes begin in one way alone: what stands first, labels, and one thing after the other.
 use Rattle.std.proofs.Common.{◌≡◌, List, [], ◌∷◌, Option, Some, None, false, refl, sym, ap, subst, ◌∙◌, inl, inr}
-use Rattle.dt_lexeme.specs.declared.lexeme.Lexeme.{Lexeme}
-use Rattle.dt_lexeme.specs.declared.lexeme.Kind.{Kind}
-use Rattle.dt_lexeme.specs.declared.lexeme.Kind.TheVariants.{Literal, Character, Paren, Reference, PathReference}
-use Rattle.dt_expression.specs.Expression.{Begins, Takes}
+use Rattle.dt_text.specs.declared.lexeme.lexeme.Lexeme.{Lexeme}
+use Rattle.dt_text.specs.declared.lexeme.lexeme.Kind.{Kind}
+use Rattle.dt_text.specs.declared.lexeme.lexeme.Kind.TheVariants.{Literal, Character, Paren, Reference, PathReference}
+use Rattle.dt_text.specs.Expression.Expression.{Begins, Takes}
 use Rattle.dt_source.specs.Sequences.{SpellsEach}
 use Rattle.dt_source.specs.Reading.Bodies.{labels_at, marks_at}
 use Rattle.dt_source.specs.Marks.{is_label, is_mark}

@@ -1,11 +1,11 @@
 -- Lexemes spell a source in one way alone.
 use Rattle.std.proofs.Common.{◌≡◌, Bool, true, false, List, [], ◌∷◌, None, refl, sym, ap, subst, ◌∙◌}
 use Rattle.std.specs.Prelude.{◌≢◌}
-use Rattle.dt_lexeme.specs.declared.language.Language.{Language}
-use Rattle.dt_lexeme.specs.declared.lexeme.Lexeme.{Lexeme}
-use Rattle.dt_lexeme.specs.declared.lexeme.Kind.{Kind}
-use Rattle.dt_lexeme.specs.declared.lexeme.Kind.TheVariants.{Version, Plugin, MemReserve, Reference, Semicolon, Slash, DeleteNode, OmitIfNoRef}
-use Rattle.dt_expression.specs.Expression.{Expression, Begins, SpellsPrimary}
+use Rattle.dt_text.specs.declared.lexeme.language.Language.{Language}
+use Rattle.dt_text.specs.declared.lexeme.lexeme.Lexeme.{Lexeme}
+use Rattle.dt_text.specs.declared.lexeme.lexeme.Kind.{Kind}
+use Rattle.dt_text.specs.declared.lexeme.lexeme.Kind.TheVariants.{Version, Plugin, MemReserve, Reference, Semicolon, Slash, DeleteNode, OmitIfNoRef}
+use Rattle.dt_text.specs.Expression.Expression.{Expression, Begins, SpellsPrimary}
 use Rattle.dt_source.specs.Sequences.{SpellsEach}
 use Rattle.dt_source.specs.Reading.Bodies.{labels_at}
 use Rattle.dt_source.specs.Source.{SourceTree, ReserveTree, ItemTree, Root, Extend, Delete, Omit, SpellsBody, SpellsItem, SpellsReserve, SpellsHeader, Spells}
@@ -14,7 +14,7 @@ use Rattle.dt_source.proofs.Several.{each_can}
 use Rattle.dt_source.proofs.SpelledLabels.{NoLabel}
 use Rattle.dt_source.proofs.SpelledPieces.{front}
 use Rattle.dt_source.proofs.ReadHeaders.{Opens, reserve_opens, item_opens}
-use Rattle.dt_expression.proofs.Trees.{spells_one}
+use Rattle.dt_text.proofs.ExpressionLemmas.Trees.{spells_one}
 use Rattle.dt_source.proofs.OneEach.{Same, one_takes, one_begins, one_after, one_labels, one_each, Ends, sorted, sort_behind, begins_sort, reference_sort, no_label, behind_labels, behind_none}
 use Rattle.dt_source.proofs.OneBody.{one_body}
 

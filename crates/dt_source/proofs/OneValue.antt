@@ -1,13 +1,13 @@
 -- Lexemes spell the value of a property in one way alone.
 use Rattle.std.proofs.Common.{◌≡◌, List, [], ◌∷◌, false, refl, sym, ap, subst, ◌∙◌}
-use Rattle.dt_lexeme.specs.declared.lexeme.Lexeme.{Lexeme}
-use Rattle.dt_lexeme.specs.declared.lexeme.Kind.{Kind}
-use Rattle.dt_lexeme.specs.declared.lexeme.Kind.TheVariants.{Text, Reference, Square, Less, Bits, IncludeBinary, Paren, EndParen, Equals, Comma, Semicolon, Brace}
-use Rattle.dt_expression.specs.Expression.{Begins, SpellsPrimary}
+use Rattle.dt_text.specs.declared.lexeme.lexeme.Lexeme.{Lexeme}
+use Rattle.dt_text.specs.declared.lexeme.lexeme.Kind.{Kind}
+use Rattle.dt_text.specs.declared.lexeme.lexeme.Kind.TheVariants.{Text, Reference, Square, Less, Bits, IncludeBinary, Paren, EndParen, Equals, Comma, Semicolon, Brace}
+use Rattle.dt_text.specs.Expression.Expression.{Begins, SpellsPrimary}
 use Rattle.dt_source.specs.Sequences.{SpellsEach}
 use Rattle.dt_source.specs.Marks.{is_label}
 use Rattle.dt_source.specs.Source.{CellTree, PortionTree, Whole, Portion, PieceTree, Quoted, Points, Pairs, Cells, WideCells, Includes, SpellsLabels, SpellsCells, SpellsPortion, SpellsPiece, SpellsPlaced, SpellsFurther, SpellsValue}
-use Rattle.dt_expression.proofs.Trees.{spells_one}
+use Rattle.dt_text.proofs.ExpressionLemmas.Trees.{spells_one}
 use Rattle.dt_source.proofs.Several.{each_can}
 use Rattle.dt_source.proofs.SpelledLabels.{NoLabel}
 use Rattle.dt_source.proofs.SpelledPieces.{front}

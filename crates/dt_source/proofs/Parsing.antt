@@ -1,20 +1,20 @@
 -- A text, its lexemes and its source.
 use Rattle.std.proofs.Common.{◌≡◌, ℕ, List, Option, Some, None, Result, Ok, Err, refl, sym, ap, subst, ◌∙◌, inl, inr, ◌⊎◌, arith}
 use Rattle.std.specs.Prelude.{IfOk, IfErr}
-use Rattle.dt_lexeme.specs.declared.language.Language.{Language}
-use Rattle.dt_lexeme.specs.declared.lexeme.Lexeme.{Lexeme}
-use Rattle.dt_lexeme.specs.declared.lexeme.Fault.{Fault}
-use Rattle.dt_lexeme.specs.declared.lexeme.Refusal.{Refusal}
-use Rattle.dt_lexeme.specs.declared.lexeme.ReadError.{ReadError}
-use Rattle.dt_lexeme.specs.declared.lexeme.ReadError.TheVariants as errors
-use Rattle.dt_lexeme.specs.declared.lexeme.FaultKind.{FaultKind}
-use Rattle.dt_lexeme.specs.declared.lexeme.FaultKind.TheVariants.{ElementRange, DivideByZero, BadBits, LiteralRange, BadEscape}
+use Rattle.dt_text.specs.declared.lexeme.language.Language.{Language}
+use Rattle.dt_text.specs.declared.lexeme.lexeme.Lexeme.{Lexeme}
+use Rattle.dt_text.specs.declared.lexeme.lexeme.Fault.{Fault}
+use Rattle.dt_text.specs.declared.lexeme.lexeme.Refusal.{Refusal}
+use Rattle.dt_text.specs.declared.lexeme.lexeme.ReadError.{ReadError}
+use Rattle.dt_text.specs.declared.lexeme.lexeme.ReadError.TheVariants as errors
+use Rattle.dt_text.specs.declared.lexeme.lexeme.FaultKind.{FaultKind}
+use Rattle.dt_text.specs.declared.lexeme.lexeme.FaultKind.TheVariants.{ElementRange, DivideByZero, BadBits, LiteralRange, BadEscape}
 use Rattle.dt_source.specs.declared.error.SourceErrorKind.{SourceErrorKind}
 use Rattle.dt_source.specs.declared.error.SourceErrorKind.TheVariants as kinds
 use Rattle.dt_source.specs.declared.tree.Outline.{Outline}
-use Rattle.dt_lexeme.specs.Lexemes.{Lexemes, HasNone, Scanned}
+use Rattle.dt_text.specs.Lexeme.Lexemes.{Lexemes, HasNone, Scanned}
 use Rattle.dt_source.specs.Reading.Several.{Reads}
-use Rattle.dt_meaning.specs.Syntax.{Meaning}
+use Rattle.dt_source.specs.TreeMeaning.Syntax.{Meaning}
 use Rattle.dt_source.specs.Meaning.{outlined}
 use Rattle.dt_source.specs.Order.{first_of}
 use Rattle.dt_source.specs.Source.{SourceTree, Spells, said, faults_of}
@@ -24,7 +24,7 @@ use Rattle.dt_source.specs.Laws.{SourcesAreSpelled, SourcesAreRead}
 use Rattle.dt_source.specs.declared.place.Place.{Place}
 use Rattle.dt_source.specs.Parse.{IsShort, IsSource, IsNoSource, Says, HasFirstFault, HasFault, Refuses, IsRead, IfRefused, refusal_of, refused_at}
 use Rattle.dt_source.specs.SourceError.{kind_of_fault}
-use Rattle.dt_lexeme.proofs.Scanning.{one_list}
+use Rattle.dt_text.proofs.LexemeLemmas.Scanning.{one_list}
 use Rattle.dt_source.proofs.OneSource.{one_spelling}
 
 pub same_tree : (language : Language) (text : List ℕ) (s t : SourceTree) → IsSource language text s → IsSource language text t → s ≡ t

@@ -4,17 +4,17 @@ use Rattle.std.specs.Prelude.{fold}
 use Rattle.std.proofs.lemmas.Grind.{fold-append}
 use Rattle.std.proofs.lemmas.List.{append-nil}
 use Rattle.std.proofs.Math.Seq.{take-suc}
-use Rattle.dt_lexeme.specs.declared.language.Language.{Language}
-use Rattle.dt_lexeme.specs.declared.lexeme.Lexeme.{Lexeme}
-use Rattle.dt_lexeme.specs.declared.lexeme.Kind.{Kind}
-use Rattle.dt_lexeme.specs.declared.lexeme.Kind.TheVariants.{Comma}
-use Rattle.dt_lexeme.specs.declared.lexeme.Fault.{Fault}
-use Rattle.dt_lexeme.specs.declared.lexeme.Refusal.{Refusal}
-use Rattle.dt_lexeme.specs.declared.lexeme.ReadError.{ReadError}
-use Rattle.dt_lexeme.specs.declared.lexeme.ReadError.TheVariants as errors
-use Rattle.dt_expression.specs.Reading.{◌>>=◌}
+use Rattle.dt_text.specs.declared.lexeme.language.Language.{Language}
+use Rattle.dt_text.specs.declared.lexeme.lexeme.Lexeme.{Lexeme}
+use Rattle.dt_text.specs.declared.lexeme.lexeme.Kind.{Kind}
+use Rattle.dt_text.specs.declared.lexeme.lexeme.Kind.TheVariants.{Comma}
+use Rattle.dt_text.specs.declared.lexeme.lexeme.Fault.{Fault}
+use Rattle.dt_text.specs.declared.lexeme.lexeme.Refusal.{Refusal}
+use Rattle.dt_text.specs.declared.lexeme.lexeme.ReadError.{ReadError}
+use Rattle.dt_text.specs.declared.lexeme.lexeme.ReadError.TheVariants as errors
+use Rattle.dt_text.specs.Expression.Reading.{◌>>=◌}
 use Rattle.dt_source.specs.Reading.Several.{earlier, Part, many, Fails}
-use Rattle.dt_meaning.specs.Syntax.{Target, Piece, Plain, PhandleOf, PathOf, Stored}
+use Rattle.dt_source.specs.TreeMeaning.Syntax.{Target, Piece, Plain, PhandleOf, PathOf, Stored}
 use Rattle.dt_source.specs.Reading.Values.{Built, put, put_all, bytes_piece, flushed}
 use Rattle.dt_source.specs.Pieces.{join_bytes, joined}
 use Rattle.dt_source.specs.Reading.Bodies.{labels_at, stays, placed_at, comma_by, comma_at, concat_pieces, pieces_at, value_at}

@@ -1,22 +1,22 @@
 -- Headers and reservations that are spelled are read.
 use Rattle.std.proofs.Common.{◌≡◌, ℕ, suc, ◌<◌, Bool, true, false, List, [], ◌∷◌, length, map, Ok, Option, Some, None, refl, sym, ap, subst, ◌∙◌, arith, inl, inr}
 use Rattle.std.specs.Prelude.{flat_map, fold}
-use Rattle.dt_lexeme.specs.declared.language.Language.{Language}
-use Rattle.dt_lexeme.specs.declared.lexeme.Lexeme.{Lexeme}
-use Rattle.dt_lexeme.specs.declared.lexeme.Fault.{Fault}
-use Rattle.dt_lexeme.specs.declared.lexeme.Kind.{Kind}
-use Rattle.dt_lexeme.specs.declared.lexeme.Kind.TheVariants.{Version, Plugin, MemReserve, Label, Reference, PathReference, Semicolon, Slash, DeleteNode, OmitIfNoRef}
-use Rattle.dt_expression.specs.Expression.{Begins, SpellsPrimary}
-use Rattle.dt_expression.specs.ReadingExpressions.{primary_at}
+use Rattle.dt_text.specs.declared.lexeme.language.Language.{Language}
+use Rattle.dt_text.specs.declared.lexeme.lexeme.Lexeme.{Lexeme}
+use Rattle.dt_text.specs.declared.lexeme.lexeme.Fault.{Fault}
+use Rattle.dt_text.specs.declared.lexeme.lexeme.Kind.{Kind}
+use Rattle.dt_text.specs.declared.lexeme.lexeme.Kind.TheVariants.{Version, Plugin, MemReserve, Label, Reference, PathReference, Semicolon, Slash, DeleteNode, OmitIfNoRef}
+use Rattle.dt_text.specs.Expression.Expression.{Begins, SpellsPrimary}
+use Rattle.dt_text.specs.Expression.ReadingExpressions.{primary_at}
 use Rattle.dt_source.specs.Sequences.{SpellsEach}
-use Rattle.dt_expression.specs.Values.{value_of}
+use Rattle.dt_text.specs.Expression.Values.{value_of}
 use Rattle.dt_source.specs.Order.{first_of}
 use Rattle.dt_source.specs.Reading.Bodies.{labels_at, semicolon_at}
 use Rattle.dt_source.specs.Marks.{is_label}
 use Rattle.dt_source.specs.Source.{ReserveTree, ItemTree, Root, Extend, Delete, Omit, IsReference, SpellsLabels, SpellsReserve, SpellsHeader, SpellsItem, both_numbers, reserve_values, reserve_faults}
 use Rattle.dt_source.specs.Reading.Whole.{plugin_kind, plugin_at, header_kind, header_at, more_headers, headers_at, reserve_kind, reserve_with, reserve_at, reserves_at}
-use Rattle.dt_expression.proofs.Complete.{begins_shorter, shorter}
-use Rattle.dt_expression.proofs.Trees.{reads_all_that_is_spelled}
+use Rattle.dt_text.proofs.ExpressionLemmas.Complete.{begins_shorter, shorter}
+use Rattle.dt_text.proofs.ExpressionLemmas.Trees.{reads_all_that_is_spelled}
 use Rattle.dt_source.proofs.Several as several
 use Rattle.dt_source.proofs.Semicolons.{semicolon_again}
 use Rattle.dt_source.proofs.SpelledLabels.{NoLabel, labels_again, labels_shorter}

@@ -1,11 +1,11 @@
 -- Semicolons are spelled where they are read, and the other way round.
 use Rattle.std.proofs.Common.{◌≡◌, List, [], ◌∷◌, Ok, ap, ◌∙◌, refl}
-use Rattle.dt_lexeme.specs.declared.lexeme.Lexeme.{Lexeme}
-use Rattle.dt_lexeme.specs.declared.lexeme.Kind.{Kind}
-use Rattle.dt_lexeme.specs.declared.lexeme.Kind.TheVariants.{Semicolon}
-use Rattle.dt_expression.specs.Expression.{Begins}
+use Rattle.dt_text.specs.declared.lexeme.lexeme.Lexeme.{Lexeme}
+use Rattle.dt_text.specs.declared.lexeme.lexeme.Kind.{Kind}
+use Rattle.dt_text.specs.declared.lexeme.lexeme.Kind.TheVariants.{Semicolon}
+use Rattle.dt_text.specs.Expression.Expression.{Begins}
 use Rattle.dt_source.specs.Reading.Bodies.{semicolon_kind, semicolon_at}
-use Rattle.dt_expression.proofs.Sound.{ok_is}
+use Rattle.dt_text.proofs.ExpressionLemmas.Sound.{ok_is}
 
 pub semicolon_sound : (ts rest : List Lexeme) → semicolon_at ts ≡ Ok rest → Begins ts Semicolon rest
 semicolon_sound [] rest e = absurd cc

@@ -1,14 +1,14 @@
 -- Things that are read one after the other, and things that are spelled so.
 use Rattle.std.proofs.Common.{◌≡◌, ℕ, zero, suc, ◌<◌, List, [], ◌∷◌, ◌++◌, length, map, Ok, Option, Some, None, refl, sym, ap, subst, ◌∙◌, arith}
 use Rattle.std.specs.Prelude.{flat_map}
-use Rattle.dt_lexeme.specs.declared.lexeme.Lexeme.{Lexeme}
-use Rattle.dt_lexeme.specs.declared.lexeme.Fault.{Fault}
-use Rattle.dt_expression.specs.Reading.{◌>>=◌}
+use Rattle.dt_text.specs.declared.lexeme.lexeme.Lexeme.{Lexeme}
+use Rattle.dt_text.specs.declared.lexeme.lexeme.Fault.{Fault}
+use Rattle.dt_text.specs.Expression.Reading.{◌>>=◌}
 use Rattle.dt_source.specs.Reading.Several.{earlier, Part, with_item, many}
 use Rattle.dt_source.specs.Sequences.{SpellsEach}
 use Rattle.dt_source.specs.Order.{first_of}
 use Rattle.dt_source.specs.Reading.Bodies.{stays}
-use Rattle.dt_expression.proofs.Sound.{bind_ok, ok_is}
+use Rattle.dt_text.proofs.ExpressionLemmas.Sound.{bind_ok, ok_is}
 
 pub first_of_both : (a b : List Fault) → first_of (a ++ b) ≡ earlier (first_of a) (first_of b)
 first_of_both [] b = refl

@@ -2,26 +2,26 @@
 use Rattle.std.proofs.Common.{◌≡◌, ℕ, zero, suc, ◌+◌, ◌-◌, ◌*◌, ◌≤◌, Bool, true, false, cond, List, [], ◌∷◌, length, drop, take, Option, Some, None, Ok, Err, refl, sym, ap, subst, arith, inl, inr, ◌⊎◌}
 use Rattle.std.specs.Prelude.{flat_map, slice_range, ◌==◌, if◌then◌else◌, All}
 use Rattle.std.proofs.lemmas.List.{length-take}
-use Rattle.dt_lexeme.specs.declared.language.Language.{Language}
-use Rattle.dt_lexeme.specs.declared.lexeme.Lexeme.{Lexeme}
-use Rattle.dt_lexeme.specs.declared.lexeme.Fault.{Fault}
-use Rattle.dt_lexeme.specs.declared.lexeme.FaultKind.TheVariants.{ElementRange, BadEscape, BadBits}
-use Rattle.dt_lexeme.specs.declared.lexeme.Kind.{Kind}
-use Rattle.dt_expression.specs.declared.elements.Width.{Width}
-use Rattle.dt_expression.specs.declared.elements.Width.TheVariants.{Eight, Sixteen, ThirtyTwo, SixtyFour}
-use Rattle.dt_lexeme.specs.Lexemes.{Lexemes}
-use Rattle.dt_expression.specs.Expression.{Takes}
-use Rattle.dt_expression.specs.Values.{Value, value_of, literal_of}
-use Rattle.dt_expression.specs.Element.{element, fits_bits, bytes_in, width_of}
+use Rattle.dt_text.specs.declared.lexeme.language.Language.{Language}
+use Rattle.dt_text.specs.declared.lexeme.lexeme.Lexeme.{Lexeme}
+use Rattle.dt_text.specs.declared.lexeme.lexeme.Fault.{Fault}
+use Rattle.dt_text.specs.declared.lexeme.lexeme.FaultKind.TheVariants.{ElementRange, BadEscape, BadBits}
+use Rattle.dt_text.specs.declared.lexeme.lexeme.Kind.{Kind}
+use Rattle.dt_text.specs.declared.expression.elements.Width.{Width}
+use Rattle.dt_text.specs.declared.expression.elements.Width.TheVariants.{Eight, Sixteen, ThirtyTwo, SixtyFour}
+use Rattle.dt_text.specs.Lexeme.Lexemes.{Lexemes}
+use Rattle.dt_text.specs.Expression.Expression.{Takes}
+use Rattle.dt_text.specs.Expression.Values.{Value, value_of, literal_of}
+use Rattle.dt_text.specs.Expression.Element.{element, fits_bits, bytes_in, width_of}
 use Rattle.dt_source.specs.Sequences.{SpellsEach}
-use Rattle.dt_expression.specs.Escape.{escape_at}
+use Rattle.dt_text.specs.Expression.Escape.{escape_at}
 use Rattle.dt_source.specs.Strings.{chars_with, char_step, with_char, escaped, faults, string_faults}
 use Rattle.dt_source.specs.Pieces.{fault_in, cell_fault, reference_fault, width_at, width_in, lawful}
 use Rattle.dt_source.specs.Order.{first_of}
 use Rattle.dt_source.specs.Source.{CellTree, Element, Refers, Marks, PortionTree, Whole, Portion, PieceTree, Quoted, Points, Pairs, Cells, WideCells, Includes, Statements, End, Sets, Unsets, Holds, Drops, ReserveTree, ItemTree, Root, Extend, Delete, Omit, SourceTree, One, SpellsLabels, SpellsMarks, DropsLabels, SpellsCell, SpellsCells, OnePair, SpellsPortion, SpellsPiece, SpellsPlaced, SpellsFurther, SpellsValue, BeginsDeletion, SpellsStatements, SpellsBody, SpellsItem, SpellsReserve, SpellsHeader, Spells, cell_of, fault_list, cells_faults, portion_values, portion_faults, piece_faults, width_said, value_faults, faults_in, item_faults, reserve_faults, faults_of}
 use Rattle.dt_source.specs.Order.{IsFirstInText}
-use Rattle.dt_lexeme.specs.Order.{Above}
-use Rattle.dt_lexeme.proofs.InOrder.{lexemes_above}
+use Rattle.dt_text.specs.Lexeme.Order.{Above}
+use Rattle.dt_text.proofs.LexemeLemmas.InOrder.{lexemes_above}
 use Rattle.dt_source.proofs.InOrder.{takes_above, takes_rest, above_first, begins_above, Within, within_lower, literal_place, Reach, reach_none, reach_both, reach_behind, reach_one, value_reach, fault_reach}
 
 -- ---- one after the other

@@ -1,21 +1,21 @@
 -- Statements that are spelled are read.
 use Rattle.std.proofs.Common.{◌≡◌, ℕ, zero, suc, ◌<◌, ◌≤◌, Bool, true, false, ◌||◌, cond, List, [], ◌∷◌, ◌++◌, length, map, Ok, Option, Some, None, refl, sym, ap, subst, ◌∙◌, arith}
-use Rattle.dt_lexeme.specs.declared.language.Language.{Language}
-use Rattle.dt_lexeme.specs.declared.language.Language.TheVariants.{Profile, Dtc}
-use Rattle.dt_lexeme.specs.declared.lexeme.Lexeme.{Lexeme}
-use Rattle.dt_lexeme.specs.declared.lexeme.Fault.{Fault}
-use Rattle.dt_lexeme.specs.declared.lexeme.Kind.{Kind}
-use Rattle.dt_lexeme.specs.declared.lexeme.Kind.TheVariants.{Name, Semicolon, Equals, Brace, EndBrace, DeleteNode, DeleteProperty}
-use Rattle.dt_expression.specs.Expression.{Begins}
-use Rattle.dt_expression.specs.Reading.{◌>>=◌}
+use Rattle.dt_text.specs.declared.lexeme.language.Language.{Language}
+use Rattle.dt_text.specs.declared.lexeme.language.Language.TheVariants.{Profile, Dtc}
+use Rattle.dt_text.specs.declared.lexeme.lexeme.Lexeme.{Lexeme}
+use Rattle.dt_text.specs.declared.lexeme.lexeme.Fault.{Fault}
+use Rattle.dt_text.specs.declared.lexeme.lexeme.Kind.{Kind}
+use Rattle.dt_text.specs.declared.lexeme.lexeme.Kind.TheVariants.{Name, Semicolon, Equals, Brace, EndBrace, DeleteNode, DeleteProperty}
+use Rattle.dt_text.specs.Expression.Expression.{Begins}
+use Rattle.dt_text.specs.Expression.Reading.{◌>>=◌}
 use Rattle.dt_source.specs.Reading.Several.{earlier, many}
-use Rattle.dt_meaning.specs.Syntax.{Piece, Entry, Defines, Undefines, Child, Removes, body_of}
+use Rattle.dt_source.specs.TreeMeaning.Syntax.{Piece, Entry, Defines, Undefines, Child, Removes, body_of}
 use Rattle.dt_source.specs.Order.{first_of}
 use Rattle.dt_source.specs.Reading.Bodies.{marks_at, ended_by, Inner, name_by, named_by, named_at, deleted_at, bare_by, marked_by, nameless, begun_by, begun_at, statement_at, after, body_below, body_at}
 use Rattle.dt_source.specs.Marks.{is_mark, omits, labels_in}
 use Rattle.dt_source.specs.Words.{label_bytes, name_bytes}
 use Rattle.dt_source.specs.Source.{Statements, End, Sets, Unsets, Holds, Drops, One, SpellsLabels, SpellsMarks, SpellsValue, SpellsPlaced, SpellsStatements, BeginsDeletion, stand_before_deletion, PieceTree, value_said, value_faults, entries_of, faults_in}
-use Rattle.dt_expression.proofs.Complete.{begins_shorter}
+use Rattle.dt_text.proofs.ExpressionLemmas.Complete.{begins_shorter}
 use Rattle.dt_source.proofs.Several as several
 use Rattle.dt_source.proofs.Semicolons.{semicolon_again}
 use Rattle.dt_source.proofs.SpelledLabels.{NoMark, marks_again, no_mark_at, labels_shorter, marks_shorter, labels_are_marks, labels_omit_nothing}

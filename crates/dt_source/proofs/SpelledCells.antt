@@ -1,25 +1,25 @@
 -- Cells and byte strings that are read are spelled, and the other way round.
 use Rattle.std.proofs.Common.{◌≡◌, ℕ, suc, true, ◌<◌, ◌≤◌, List, [], ◌∷◌, length, Ok, Option, Some, None, refl, sym, ap, subst, ◌∙◌, arith, ◌⊎◌, inl, inr}
-use Rattle.dt_lexeme.specs.declared.lexeme.Lexeme.{Lexeme}
-use Rattle.dt_lexeme.specs.declared.lexeme.Fault.{Fault}
-use Rattle.dt_lexeme.specs.declared.lexeme.Kind.{Kind}
-use Rattle.dt_lexeme.specs.declared.lexeme.Kind.TheVariants.{Label, Literal, Character, Reference, PathReference, Greater, Paren}
-use Rattle.dt_expression.specs.declared.elements.Width.{Width}
+use Rattle.dt_text.specs.declared.lexeme.lexeme.Lexeme.{Lexeme}
+use Rattle.dt_text.specs.declared.lexeme.lexeme.Fault.{Fault}
+use Rattle.dt_text.specs.declared.lexeme.lexeme.Kind.{Kind}
+use Rattle.dt_text.specs.declared.lexeme.lexeme.Kind.TheVariants.{Label, Literal, Character, Reference, PathReference, Greater, Paren}
+use Rattle.dt_text.specs.declared.expression.elements.Width.{Width}
 use Rattle.dt_source.specs.declared.cell.Cell.{Cell}
 use Rattle.dt_source.specs.declared.cell.Cell.TheVariants as cells
-use Rattle.dt_expression.specs.Expression.{Expression, Number, Grouped, Prefixed, Infix, Choice, is_number, Begins, Spells, SpellsPrimary}
-use Rattle.dt_expression.specs.Values.{value_of}
-use Rattle.dt_expression.specs.ReadingExpressions.{primary_at}
+use Rattle.dt_text.specs.Expression.Expression.{Expression, Number, Grouped, Prefixed, Infix, Choice, is_number, Begins, Spells, SpellsPrimary}
+use Rattle.dt_text.specs.Expression.Values.{value_of}
+use Rattle.dt_text.specs.Expression.ReadingExpressions.{primary_at}
 use Rattle.dt_source.specs.Reading.Several.{many}
 use Rattle.dt_source.specs.Sequences.{SpellsEach}
-use Rattle.dt_meaning.specs.Syntax.{Piece}
+use Rattle.dt_source.specs.TreeMeaning.Syntax.{Piece}
 use Rattle.dt_source.specs.Pieces.{cell_fault, cells_pieces}
 use Rattle.dt_source.specs.Order.{first_of}
 use Rattle.dt_source.specs.Reading.Bodies.{element_at, cell_by, cell_at, fault_of_cell, cell_step, cells_at, stays}
 use Rattle.dt_source.specs.Source.{CellTree, Element, Refers, Marks, IsReference, SpellsCell, cell_of, cells_said, cells_faults, fault_list}
-use Rattle.dt_expression.proofs.Sound.{bind_ok, done, ok_is}
-use Rattle.dt_expression.proofs.Complete.{shorter}
-use Rattle.dt_expression.proofs.Trees.{reads_what_is_spelled, reads_all_that_is_spelled}
+use Rattle.dt_text.proofs.ExpressionLemmas.Sound.{bind_ok, done, ok_is}
+use Rattle.dt_text.proofs.ExpressionLemmas.Complete.{shorter}
+use Rattle.dt_text.proofs.ExpressionLemmas.Trees.{reads_what_is_spelled, reads_all_that_is_spelled}
 use Rattle.dt_source.proofs.Several as several
 
 pub first_of_list : (f : Option Fault) → first_of (fault_list f) ≡ f

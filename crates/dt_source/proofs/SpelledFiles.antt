@@ -1,24 +1,24 @@
 -- Parts of files that are read are spelled, and the other way round.
 use Rattle.std.proofs.Common.{◌≡◌, ℕ, ◌<◌, List, [], ◌∷◌, ◌++◌, length, Ok, Option, Some, None, refl, ap, subst, ◌∙◌, arith}
-use Rattle.dt_lexeme.specs.declared.language.Language.{Language}
-use Rattle.dt_lexeme.specs.declared.lexeme.Lexeme.{Lexeme}
-use Rattle.dt_lexeme.specs.declared.lexeme.Fault.{Fault}
-use Rattle.dt_lexeme.specs.declared.lexeme.Kind.{Kind}
-use Rattle.dt_lexeme.specs.declared.lexeme.Kind.TheVariants.{IncludeBinary, Text, Comma, Paren, EndParen}
-use Rattle.dt_expression.specs.Expression.{Expression, Begins, SpellsPrimary}
-use Rattle.dt_expression.specs.Reading.{◌>>=◌}
-use Rattle.dt_expression.specs.ReadingExpressions.{primary_at}
-use Rattle.dt_expression.specs.Values.{Value, value_of}
-use Rattle.dt_meaning.specs.Syntax.{Piece}
+use Rattle.dt_text.specs.declared.lexeme.language.Language.{Language}
+use Rattle.dt_text.specs.declared.lexeme.lexeme.Lexeme.{Lexeme}
+use Rattle.dt_text.specs.declared.lexeme.lexeme.Fault.{Fault}
+use Rattle.dt_text.specs.declared.lexeme.lexeme.Kind.{Kind}
+use Rattle.dt_text.specs.declared.lexeme.lexeme.Kind.TheVariants.{IncludeBinary, Text, Comma, Paren, EndParen}
+use Rattle.dt_text.specs.Expression.Expression.{Expression, Begins, SpellsPrimary}
+use Rattle.dt_text.specs.Expression.Reading.{◌>>=◌}
+use Rattle.dt_text.specs.Expression.ReadingExpressions.{primary_at}
+use Rattle.dt_text.specs.Expression.Values.{Value, value_of}
+use Rattle.dt_source.specs.TreeMeaning.Syntax.{Piece}
 use Rattle.dt_source.specs.Strings.{string_faults}
 use Rattle.dt_source.specs.Pieces.{fault_in, portion_pieces}
 use Rattle.dt_source.specs.Order.{first_of}
 use Rattle.dt_source.specs.Reading.Several.{earlier}
 use Rattle.dt_source.specs.Reading.Files.{paren_kind, paren_at, end_paren_kind, end_paren_at, separator_kind, separator_at, file_name_by, file_name_at, both_at, portion_by, portion_at, portion_fault, included_at}
 use Rattle.dt_source.specs.Source.{PortionTree, Whole, Portion, Includes, One, SpellsPortion, SpellsPiece, fault_list, portion_values, portion_faults, piece_said, piece_faults}
-use Rattle.dt_expression.proofs.Sound.{bind_ok, done, ok_is}
-use Rattle.dt_expression.proofs.Complete.{begins_shorter, shorter}
-use Rattle.dt_expression.proofs.Trees.{reads_what_is_spelled, reads_all_that_is_spelled}
+use Rattle.dt_text.proofs.ExpressionLemmas.Sound.{bind_ok, done, ok_is}
+use Rattle.dt_text.proofs.ExpressionLemmas.Complete.{begins_shorter, shorter}
+use Rattle.dt_text.proofs.ExpressionLemmas.Trees.{reads_what_is_spelled, reads_all_that_is_spelled}
 use Rattle.dt_source.proofs.Several as several
 use Rattle.dt_source.proofs.SpelledCells.{first_of_list}
 

@@ -1,14 +1,14 @@
 -- Headers and reservations that are read are spelled, and the other way round.
 use Rattle.std.proofs.Common.{◌≡◌, ℕ, suc, Bool, true, false, List, [], ◌∷◌, length, map, Ok, Option, Some, None, refl, sym, ap, subst, ◌∙◌}
 use Rattle.std.specs.Prelude.{◌||◌, flat_map, fold}
-use Rattle.dt_lexeme.specs.declared.lexeme.Lexeme.{Lexeme}
-use Rattle.dt_lexeme.specs.declared.lexeme.Fault.{Fault}
-use Rattle.dt_lexeme.specs.declared.lexeme.Kind.{Kind}
-use Rattle.dt_lexeme.specs.declared.lexeme.Kind.TheVariants.{Version, Plugin, MemReserve, Semicolon}
-use Rattle.dt_expression.specs.Expression.{Begins}
-use Rattle.dt_expression.specs.Values.{Value, value_of}
-use Rattle.dt_expression.specs.Reading.{◌>>=◌}
-use Rattle.dt_expression.specs.ReadingExpressions.{primary_at}
+use Rattle.dt_text.specs.declared.lexeme.lexeme.Lexeme.{Lexeme}
+use Rattle.dt_text.specs.declared.lexeme.lexeme.Fault.{Fault}
+use Rattle.dt_text.specs.declared.lexeme.lexeme.Kind.{Kind}
+use Rattle.dt_text.specs.declared.lexeme.lexeme.Kind.TheVariants.{Version, Plugin, MemReserve, Semicolon}
+use Rattle.dt_text.specs.Expression.Expression.{Begins}
+use Rattle.dt_text.specs.Expression.Values.{Value, value_of}
+use Rattle.dt_text.specs.Expression.Reading.{◌>>=◌}
+use Rattle.dt_text.specs.Expression.ReadingExpressions.{primary_at}
 use Rattle.dt_source.specs.Sequences.{SpellsEach}
 use Rattle.dt_source.specs.Reading.Several.{earlier, many}
 use Rattle.dt_source.specs.Pieces.{fault_in}
@@ -16,8 +16,8 @@ use Rattle.dt_source.specs.Order.{first_of}
 use Rattle.dt_source.specs.Reading.Bodies.{stays, labels_at, semicolon_at}
 use Rattle.dt_source.specs.Source.{ReserveTree, SpellsReserve, SpellsHeader, DropsLabels, fault_list, both_numbers, reserve_values, reserve_faults, any}
 use Rattle.dt_source.specs.Reading.Whole.{plugin_kind, plugin_at, header_kind, header_at, more_headers, headers_at, reserve_kind, reserve_with, reserve_at, reserves_at}
-use Rattle.dt_expression.proofs.Sound.{bind_ok, ok_is}
-use Rattle.dt_expression.proofs.Trees.{reads_what_is_spelled}
+use Rattle.dt_text.proofs.ExpressionLemmas.Sound.{bind_ok, ok_is}
+use Rattle.dt_text.proofs.ExpressionLemmas.Trees.{reads_what_is_spelled}
 use Rattle.dt_source.proofs.Several as several
 use Rattle.dt_source.proofs.Semicolons.{semicolon_sound}
 use Rattle.dt_source.proofs.SpelledLabels.{labels_sound}

@@ -1,15 +1,15 @@
 -- Items that are read are spelled, and the other way round.
 use Rattle.std.proofs.Common.{◌≡◌, ℕ, ◌<◌, Bool, true, false, cond, List, [], ◌∷◌, length, map, Ok, Option, Some, None, refl, sym, ap, subst, ◌∙◌, arith, inl, inr}
 use Rattle.std.proofs.lemmas.Bool.{leb-true}
-use Rattle.dt_lexeme.specs.declared.language.Language.{Language}
-use Rattle.dt_lexeme.specs.declared.language.Language.TheVariants.{Profile, Dtc}
-use Rattle.dt_lexeme.specs.declared.lexeme.Lexeme.{Lexeme}
-use Rattle.dt_lexeme.specs.declared.lexeme.Fault.{Fault}
-use Rattle.dt_lexeme.specs.declared.lexeme.Kind.{Kind}
-use Rattle.dt_lexeme.specs.declared.lexeme.Kind.TheVariants.{Reference, PathReference, Semicolon, Brace, Slash, DeleteNode, OmitIfNoRef}
-use Rattle.dt_expression.specs.Expression.{Begins}
+use Rattle.dt_text.specs.declared.lexeme.language.Language.{Language}
+use Rattle.dt_text.specs.declared.lexeme.language.Language.TheVariants.{Profile, Dtc}
+use Rattle.dt_text.specs.declared.lexeme.lexeme.Lexeme.{Lexeme}
+use Rattle.dt_text.specs.declared.lexeme.lexeme.Fault.{Fault}
+use Rattle.dt_text.specs.declared.lexeme.lexeme.Kind.{Kind}
+use Rattle.dt_text.specs.declared.lexeme.lexeme.Kind.TheVariants.{Reference, PathReference, Semicolon, Brace, Slash, DeleteNode, OmitIfNoRef}
+use Rattle.dt_text.specs.Expression.Expression.{Begins}
 use Rattle.dt_source.specs.Sequences.{SpellsEach}
-use Rattle.dt_meaning.specs.Syntax.{Target, Piece, Entry, Body, body_of, Edit, Rooted, Extends, Deletes, Omits}
+use Rattle.dt_source.specs.TreeMeaning.Syntax.{Target, Piece, Entry, Body, body_of, Edit, Rooted, Extends, Deletes, Omits}
 use Rattle.dt_source.specs.Pieces.{target_of}
 use Rattle.dt_source.specs.Order.{first_of}
 use Rattle.dt_source.specs.Reading.Bodies.{ended_by, body_at, body_below}
@@ -17,8 +17,8 @@ use Rattle.dt_source.specs.Marks.{is_label}
 use Rattle.dt_source.specs.Words.{label_bytes}
 use Rattle.dt_source.specs.Source.{Statements, ItemTree, Root, Extend, Delete, Omit, IsReference, OneReference, SpellsLabels, SpellsStatements, SpellsBody, SpellsItem, stand_before_reference, entries_of, faults_in, item_said, item_faults}
 use Rattle.dt_source.specs.Reading.Whole.{brace_kind, brace_at, extend_at, referred_kind, referred_at, delete_at, omit_at, root_at, bare_item, unlabelled_item, item_kind, item_with, first_label_at, labels_before, item_at}
-use Rattle.dt_expression.proofs.Sound.{bind_ok}
-use Rattle.dt_expression.proofs.Complete.{begins_shorter}
+use Rattle.dt_text.proofs.ExpressionLemmas.Sound.{bind_ok}
+use Rattle.dt_text.proofs.ExpressionLemmas.Complete.{begins_shorter}
 use Rattle.dt_source.proofs.Several as several
 use Rattle.dt_source.proofs.SpelledLabels.{label_is, labels_sound, labels_again, labels_shorter}
 use Rattle.dt_source.proofs.SpelledPieces.{reference_front}

@@ -1,11 +1,11 @@
 -- Byte strings that are read are spelled, and the other way round.
 use Rattle.std.proofs.Common.{◌≡◌, ℕ, suc, ◌<◌, ◌≤◌, List, [], ◌∷◌, length, map, Ok, Option, Some, None, refl, sym, ap, subst, ◌∙◌, arith, inl, inr}
 use Rattle.std.specs.Prelude.{flat_map}
-use Rattle.dt_lexeme.specs.declared.lexeme.Lexeme.{Lexeme}
-use Rattle.dt_lexeme.specs.declared.lexeme.Fault.{Fault}
-use Rattle.dt_lexeme.specs.declared.lexeme.Kind.{Kind}
-use Rattle.dt_lexeme.specs.declared.lexeme.Kind.TheVariants.{Label, Pair, EndSquare}
-use Rattle.dt_expression.specs.Expression.{Begins}
+use Rattle.dt_text.specs.declared.lexeme.lexeme.Lexeme.{Lexeme}
+use Rattle.dt_text.specs.declared.lexeme.lexeme.Fault.{Fault}
+use Rattle.dt_text.specs.declared.lexeme.lexeme.Kind.{Kind}
+use Rattle.dt_text.specs.declared.lexeme.lexeme.Kind.TheVariants.{Label, Pair, EndSquare}
+use Rattle.dt_text.specs.Expression.Expression.{Begins}
 use Rattle.dt_source.specs.Reading.Several.{many}
 use Rattle.dt_source.specs.Sequences.{SpellsEach}
 use Rattle.dt_source.specs.Strings.{pair_byte}
@@ -13,7 +13,7 @@ use Rattle.dt_source.specs.Order.{first_of}
 use Rattle.dt_source.specs.Reading.Bodies.{stays, pair_by, pair_at, pairs_at}
 use Rattle.dt_source.specs.Words.{concat}
 use Rattle.dt_source.specs.Source.{IsPair, OnePair, pair_by_kind, pair_bytes}
-use Rattle.dt_expression.proofs.Sound.{bind_ok}
+use Rattle.dt_text.proofs.ExpressionLemmas.Sound.{bind_ok}
 use Rattle.dt_source.proofs.Several as several
 
 abbrev no_faults : Lexeme → List Fault

@@ -1,24 +1,24 @@
 -- The pieces of a value that are read are spelled, and the other way round.
 use Rattle.std.proofs.Common.{◌≡◌, ℕ, ◌<◌, List, [], ◌∷◌, length, Ok, Option, Some, None, false, refl, sym, ap, subst, ◌∙◌, arith, inl, inr}
-use Rattle.dt_lexeme.specs.declared.language.Language.{Language}
-use Rattle.dt_lexeme.specs.declared.lexeme.Lexeme.{Lexeme}
-use Rattle.dt_lexeme.specs.declared.lexeme.Fault.{Fault}
-use Rattle.dt_lexeme.specs.declared.lexeme.Kind.{Kind}
-use Rattle.dt_lexeme.specs.declared.lexeme.Kind.TheVariants.{Text, Reference, PathReference, Square, EndSquare, Less, Greater, Bits, IncludeBinary, Literal}
-use Rattle.dt_expression.specs.declared.elements.Width.{Width}
-use Rattle.dt_expression.specs.declared.elements.Width.TheVariants.{ThirtyTwo}
-use Rattle.dt_expression.specs.Expression.{Begins}
+use Rattle.dt_text.specs.declared.lexeme.language.Language.{Language}
+use Rattle.dt_text.specs.declared.lexeme.lexeme.Lexeme.{Lexeme}
+use Rattle.dt_text.specs.declared.lexeme.lexeme.Fault.{Fault}
+use Rattle.dt_text.specs.declared.lexeme.lexeme.Kind.{Kind}
+use Rattle.dt_text.specs.declared.lexeme.lexeme.Kind.TheVariants.{Text, Reference, PathReference, Square, EndSquare, Less, Greater, Bits, IncludeBinary, Literal}
+use Rattle.dt_text.specs.declared.expression.elements.Width.{Width}
+use Rattle.dt_text.specs.declared.expression.elements.Width.TheVariants.{ThirtyTwo}
+use Rattle.dt_text.specs.Expression.Expression.{Begins}
 use Rattle.dt_source.specs.Sequences.{SpellsEach}
 use Rattle.dt_source.specs.Reading.Several.{earlier}
-use Rattle.dt_meaning.specs.Syntax.{Piece, Plain, PathOf}
+use Rattle.dt_source.specs.TreeMeaning.Syntax.{Piece, Plain, PathOf}
 use Rattle.dt_source.specs.Strings.{string_bytes, string_faults}
 use Rattle.dt_source.specs.Pieces.{target_of, width_in, fault_in}
 use Rattle.dt_source.specs.Order.{first_of}
 use Rattle.dt_source.specs.Reading.Bodies.{labels_at, cells_at, pairs_at, less_by, less_at, bits_by, bits_at, piece_by, piece_at, placed_at}
 use Rattle.dt_source.specs.Marks.{is_label}
 use Rattle.dt_source.specs.Source.{CellTree, PortionTree, PieceTree, Quoted, Points, Pairs, Cells, WideCells, Includes, IsReference, SpellsCell, SpellsCells, OnePair, SpellsPiece, SpellsPlaced, cells_said, cells_faults, fault_list, width_said, piece_said, piece_faults}
-use Rattle.dt_expression.proofs.Sound.{bind_ok}
-use Rattle.dt_expression.proofs.Complete.{begins_shorter}
+use Rattle.dt_text.proofs.ExpressionLemmas.Sound.{bind_ok}
+use Rattle.dt_text.proofs.ExpressionLemmas.Complete.{begins_shorter}
 use Rattle.dt_source.proofs.Several as several
 use Rattle.dt_source.proofs.SpelledLabels.{NoLabel, labels_sound, labels_again, labels_shorter}
 use Rattle.dt_source.proofs.SpelledCells.{cells_sound, cells_again, cells_shorter, first_of_list}

@@ -1,19 +1,19 @@
 -- A source that is read is spelled, and the other way round.
 use Rattle.std.proofs.Common.{◌≡◌, ℕ, suc, Bool, List, [], ◌∷◌, ◌++◌, length, map, Result, Ok, Option, Some, None, refl, sym, ap, subst, ◌∙◌, arith}
 use Rattle.std.specs.Prelude.{◌≢◌, flat_map, fold}
-use Rattle.dt_lexeme.specs.declared.language.Language.{Language}
-use Rattle.dt_lexeme.specs.declared.lexeme.Lexeme.{Lexeme}
-use Rattle.dt_lexeme.specs.declared.lexeme.Fault.{Fault}
-use Rattle.dt_lexeme.specs.declared.lexeme.Refusal.{Refusal}
-use Rattle.dt_expression.specs.Reading.{◌>>=◌}
+use Rattle.dt_text.specs.declared.lexeme.language.Language.{Language}
+use Rattle.dt_text.specs.declared.lexeme.lexeme.Lexeme.{Lexeme}
+use Rattle.dt_text.specs.declared.lexeme.lexeme.Fault.{Fault}
+use Rattle.dt_text.specs.declared.lexeme.lexeme.Refusal.{Refusal}
+use Rattle.dt_text.specs.Expression.Reading.{◌>>=◌}
 use Rattle.dt_source.specs.Sequences.{SpellsEach}
 use Rattle.dt_source.specs.Reading.Several.{earlier}
-use Rattle.dt_meaning.specs.Syntax.{Edit, Meaning}
+use Rattle.dt_source.specs.TreeMeaning.Syntax.{Edit, Meaning}
 use Rattle.dt_source.specs.Order.{first_of}
 use Rattle.dt_source.specs.Source.{SourceTree, ReserveTree, ItemTree, SpellsHeader, SpellsReserve, SpellsItem, Spells, said, faults_of, any, both_numbers, reserve_values, reserve_faults, item_said, item_faults}
 use Rattle.dt_source.specs.Reading.Whole.{more_headers, headers_at, reserve_at, reserves_at, item_at, some_items, some_header, all_items_at, items_at, source_at}
 use Rattle.dt_source.specs.Laws.{SourcesAreSpelled, SourcesAreRead}
-use Rattle.dt_expression.proofs.Sound.{bind_ok, ok_is, some_is}
+use Rattle.dt_text.proofs.ExpressionLemmas.Sound.{bind_ok, ok_is, some_is}
 use Rattle.dt_source.proofs.Several as several
 use Rattle.dt_source.proofs.SpelledHeaders.{all_headers, HeadersFound, headers_sound, ReservesFound, reserves_sound}
 use Rattle.dt_source.proofs.SpelledItems.{item_sound, item_again, item_shorter}

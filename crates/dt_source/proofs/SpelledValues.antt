@@ -1,22 +1,22 @@
 -- Values that are read are spelled, and the other way round.
 use Rattle.std.proofs.Common.{◌≡◌, ℕ, suc, ◌<◌, ◌≤◌, List, [], ◌∷◌, ◌++◌, length, map, Ok, Option, Some, None, refl, sym, ap, subst, ◌∙◌, arith}
 use Rattle.std.specs.Prelude.{flat_map}
-use Rattle.dt_lexeme.specs.declared.language.Language.{Language}
-use Rattle.dt_lexeme.specs.declared.lexeme.Lexeme.{Lexeme}
-use Rattle.dt_lexeme.specs.declared.lexeme.Fault.{Fault}
-use Rattle.dt_lexeme.specs.declared.lexeme.Kind.{Kind}
-use Rattle.dt_lexeme.specs.declared.lexeme.Kind.TheVariants.{Comma, Semicolon}
-use Rattle.dt_expression.specs.Expression.{Begins}
-use Rattle.dt_expression.specs.Reading.{◌>>=◌}
+use Rattle.dt_text.specs.declared.lexeme.language.Language.{Language}
+use Rattle.dt_text.specs.declared.lexeme.lexeme.Lexeme.{Lexeme}
+use Rattle.dt_text.specs.declared.lexeme.lexeme.Fault.{Fault}
+use Rattle.dt_text.specs.declared.lexeme.lexeme.Kind.{Kind}
+use Rattle.dt_text.specs.declared.lexeme.lexeme.Kind.TheVariants.{Comma, Semicolon}
+use Rattle.dt_text.specs.Expression.Expression.{Begins}
+use Rattle.dt_text.specs.Expression.Reading.{◌>>=◌}
 use Rattle.dt_source.specs.Sequences.{SpellsEach}
 use Rattle.dt_source.specs.Reading.Several.{earlier, many}
-use Rattle.dt_meaning.specs.Syntax.{Piece}
+use Rattle.dt_source.specs.TreeMeaning.Syntax.{Piece}
 use Rattle.dt_source.specs.Pieces.{joined}
 use Rattle.dt_source.specs.Order.{first_of}
 use Rattle.dt_source.specs.Reading.Bodies.{stays, placed_at, comma_by, comma_at, concat_pieces, pieces_at, value_at}
 use Rattle.dt_source.specs.Source.{PieceTree, SpellsPlaced, SpellsFurther, piece_said, piece_faults, value_said, value_faults}
-use Rattle.dt_expression.proofs.Sound.{bind_ok}
-use Rattle.dt_expression.proofs.Complete.{begins_shorter}
+use Rattle.dt_text.proofs.ExpressionLemmas.Sound.{bind_ok}
+use Rattle.dt_text.proofs.ExpressionLemmas.Complete.{begins_shorter}
 use Rattle.dt_source.proofs.Several as several
 use Rattle.dt_source.proofs.SpelledLabels.{NoLabel}
 use Rattle.dt_source.proofs.SpelledPieces.{placed_sound, placed_again, placed_shorter, front}

@@ -1,6 +1,6 @@
 -- A body is the list of its statements.
 use Rattle.std.specs.Prelude.{◌≡◌, ◌↔◌, List, [], ◌∷◌, All}
-use Rattle.dt_meaning.specs.Syntax.{Piece, Entry, Body, Done, Then, body_of}
+use Rattle.dt_source.specs.TreeMeaning.Syntax.{Piece, Entry, Body, Done, Then, body_of}
 use Rattle.dt_source.specs.Lawful.{IsLawfulEntry, IsLawfulBody}
 
 -- the statements of a body, in their order

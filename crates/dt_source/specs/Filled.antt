@@ -1,9 +1,9 @@
 -- Values whose parts of files are filled in (dtc 1.6, Documentation/dts-format.txt: `/incbin/`). The files come in the order of the text.
 use Rattle.std.specs.Prelude.{ℕ, Bool, true, false, ◌||◌, ◌==◌, List, [], ◌∷◌, Option, Some, None, Result, Ok, Err, take, drop, if◌then◌else◌}
-use Rattle.dt_lexeme.specs.declared.lexeme.Refusal.{Refusal}
-use Rattle.dt_expression.specs.Reading.{◌>>=◌}
-use Rattle.dt_meaning.specs.Syntax.{Piece, Plain, PhandleOf, PathOf, Stored, Entry, Defines, Undefines, Child, Removes, Body, Done, Then, Edit, Rooted, Extends, Deletes, Omits, Meaning}
-use Rattle.dt_lexeme.specs.declared.binary.Binary.{Binary}
+use Rattle.dt_text.specs.declared.lexeme.lexeme.Refusal.{Refusal}
+use Rattle.dt_text.specs.Expression.Reading.{◌>>=◌}
+use Rattle.dt_source.specs.TreeMeaning.Syntax.{Piece, Plain, PhandleOf, PathOf, Stored, Entry, Defines, Undefines, Child, Removes, Body, Done, Then, Edit, Rooted, Extends, Deletes, Omits, Meaning}
+use Rattle.dt_text.specs.declared.lexeme.binary.Binary.{Binary}
 use Rattle.dt_source.specs.Parse.{no_lexeme}
 use Rattle.dt_source.specs.Pieces.{joined}
 

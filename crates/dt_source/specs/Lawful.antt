@@ -3,8 +3,8 @@
 use Rattle.std.specs.Prelude.{ℕ, Bool, true, false, not, ◌&&◌, List, [], ◌∷◌, All, IsTrue}
 use Rattle.dt_tree.specs.Name.{is_name}
 use Rattle.dt_tree.specs.Path.{is_path}
-use Rattle.dt_lexeme.specs.Label.{IsLabel}
-use Rattle.dt_meaning.specs.Syntax.{Target, OfLabel, OfPath, Piece, Plain, PhandleOf, PathOf, Stored, Entry, Defines, Undefines, Child, Removes, Body, Done, Then, Edit, Rooted, Extends, Deletes, Omits, Meaning}
+use Rattle.dt_text.specs.Lexeme.Label.{IsLabel}
+use Rattle.dt_source.specs.TreeMeaning.Syntax.{Target, OfLabel, OfPath, Piece, Plain, PhandleOf, PathOf, Stored, Entry, Defines, Undefines, Child, Removes, Body, Done, Then, Edit, Rooted, Extends, Deletes, Omits, Meaning}
 
 abbrev pub IsLawfulTarget : Target → Type 0
 IsLawfulTarget (OfLabel label) = IsLabel label

@@ -3,8 +3,8 @@ use Rattle.std.specs.Prelude.{ℕ, Bool, List, All, IsTrue}
 use Rattle.std.specs.Coded.{×_prop, Π_prop, Unit-prop}
 use mathlib.Core.Bool.{Bool-set}
 use mathlib.Core.HLevel.{×₃_prop}
-use Rattle.dt_lexeme.specs.Label.{IsLabel}
-use Rattle.dt_meaning.specs.Syntax.{Target, OfLabel, OfPath, Piece, Plain, PhandleOf, PathOf, Stored, Entry, Defines, Undefines, Child, Removes, Body, Done, Then, Edit, Rooted, Extends, Deletes, Omits}
+use Rattle.dt_text.specs.Lexeme.Label.{IsLabel}
+use Rattle.dt_source.specs.TreeMeaning.Syntax.{Target, OfLabel, OfPath, Piece, Plain, PhandleOf, PathOf, Stored, Entry, Defines, Undefines, Child, Removes, Body, Done, Then, Edit, Rooted, Extends, Deletes, Omits}
 use Rattle.dt_source.specs.Lawful.{IsLawfulTarget, IsLawfulPiece, IsLawfulEntry, IsLawfulBody, IsLawfulEdit}
 
 true_once : (b : Bool) → IsProp (IsTrue b)

@@ -1,15 +1,15 @@
 -- What reading a source has to do with what its lexemes spell.
 use Rattle.std.specs.Prelude.{◌≡◌, ◌⊎◌, ℕ, List, Option, Ok}
-use Rattle.dt_lexeme.specs.declared.language.Language.{Language}
-use Rattle.dt_lexeme.specs.declared.lexeme.Lexeme.{Lexeme}
-use Rattle.dt_lexeme.specs.declared.lexeme.Fault.{Fault}
+use Rattle.dt_text.specs.declared.lexeme.language.Language.{Language}
+use Rattle.dt_text.specs.declared.lexeme.lexeme.Lexeme.{Lexeme}
+use Rattle.dt_text.specs.declared.lexeme.lexeme.Fault.{Fault}
 use Rattle.dt_source.specs.declared.error.SourceErrorKind.{SourceErrorKind}
 use Rattle.dt_source.specs.declared.place.Place.{Place}
 use Rattle.dt_source.specs.declared.error.SourceErrorKind.TheVariants.{NoMemory}
 use Rattle.dt_source.specs.SourceError.{kind_of_fault}
 use Rattle.dt_source.specs.Order.{first_of}
 use Rattle.dt_source.specs.Parse.{IsShort, Says, HasFirstFault, Refuses}
-use Rattle.dt_meaning.specs.Syntax.{Meaning}
+use Rattle.dt_source.specs.TreeMeaning.Syntax.{Meaning}
 use Rattle.dt_source.specs.Source.{SourceTree, Spells, said, faults_of}
 use Rattle.dt_source.specs.Reading.Whole.{source_at}
 

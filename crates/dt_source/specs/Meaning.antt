@@ -2,7 +2,7 @@
 use Rattle.std.specs.Prelude.{map}
 use Rattle.dt_source.specs.declared.tree.Outline.{Outline}
 use Rattle.dt_source.specs.declared.tree.Source.{Source}
-use Rattle.dt_meaning.specs.Syntax.{Meaning}
+use Rattle.dt_source.specs.TreeMeaning.Syntax.{Meaning}
 use Rattle.dt_source.specs.Tree.{item_view}
 
 abbrev pub meaning_of : Source → Meaning

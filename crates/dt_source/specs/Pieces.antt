@@ -1,18 +1,18 @@
 -- What cells and the pieces of a value say (Devicetree Specification v0.4, section 6.3).
 use Rattle.std.specs.Prelude.{ℕ, ◌+◌, ◌-◌, List, [], ◌∷◌, ◌++◌, Option, Some, None, Result, Ok, Err, slice_range, flat_map}
-use Rattle.dt_lexeme.specs.declared.lexeme.Lexeme.{Lexeme}
-use Rattle.dt_lexeme.specs.declared.lexeme.Fault.{Fault}
-use Rattle.dt_lexeme.specs.declared.lexeme.FaultKind.TheVariants.{BadBits}
-use Rattle.dt_lexeme.specs.declared.lexeme.Kind.{Kind}
-use Rattle.dt_lexeme.specs.declared.lexeme.Kind.TheVariants.{PathReference}
-use Rattle.dt_lexeme.specs.Fronts.{path_of}
-use Rattle.dt_expression.specs.declared.elements.Width.{Width}
-use Rattle.dt_expression.specs.declared.elements.Width.TheVariants.{ThirtyTwo}
+use Rattle.dt_text.specs.declared.lexeme.lexeme.Lexeme.{Lexeme}
+use Rattle.dt_text.specs.declared.lexeme.lexeme.Fault.{Fault}
+use Rattle.dt_text.specs.declared.lexeme.lexeme.FaultKind.TheVariants.{BadBits}
+use Rattle.dt_text.specs.declared.lexeme.lexeme.Kind.{Kind}
+use Rattle.dt_text.specs.declared.lexeme.lexeme.Kind.TheVariants.{PathReference}
+use Rattle.dt_text.specs.Lexeme.Fronts.{path_of}
+use Rattle.dt_text.specs.declared.expression.elements.Width.{Width}
+use Rattle.dt_text.specs.declared.expression.elements.Width.TheVariants.{ThirtyTwo}
 use Rattle.dt_source.specs.declared.cell.Cell.{Cell}
 use Rattle.dt_source.specs.declared.cell.Cell.TheVariants as cells
-use Rattle.dt_expression.specs.Values.{Value}
-use Rattle.dt_expression.specs.Element.{bytes_in, width_of, low_bytes, element}
-use Rattle.dt_meaning.specs.Syntax.{Target, OfLabel, OfPath, Piece, Plain, PhandleOf, Stored}
+use Rattle.dt_text.specs.Expression.Values.{Value}
+use Rattle.dt_text.specs.Expression.Element.{bytes_in, width_of, low_bytes, element}
+use Rattle.dt_source.specs.TreeMeaning.Syntax.{Target, OfLabel, OfPath, Piece, Plain, PhandleOf, Stored}
 
 abbrev pub target_by : List ℕ → Lexeme → Kind → Target
 target_by text l PathReference = OfPath (path_of (slice_range text (l.start + 2) (l.end - 1)))

@@ -1,6 +1,6 @@
 -- Places in a text: an offset in bytes, and the line of that byte, from 1.
 use Rattle.std.specs.Prelude.{ℕ, min, List, length}
-use Rattle.dt_lexeme.specs.Lines.{line_at}
+use Rattle.dt_text.specs.Lexeme.Lines.{line_at}
 use Rattle.dt_source.specs.declared.place.Place.{Place}
 
 -- the place of a byte; one behind the text is its end

@@ -1,20 +1,20 @@
 -- Sources, the lexemes that spell them, what they say, and their faults (Devicetree Specification v0.4, sections 6.2 and 6.3). What
 -- begins with a lexeme that only dtc's language has is dtc's (dtc 1.6, Documentation/dts-format.txt).
 use Rattle.std.specs.Prelude.{◌≡◌, ◌≢◌, ℕ, nat_le, length, Bool, true, false, ◌||◌, List, [], ◌∷◌, ◌++◌, Option, Some, None, Result, Ok, map, flat_map, ◌⊎◌, if◌then◌else◌}
-use Rattle.dt_lexeme.specs.declared.language.Language.{Language}
-use Rattle.dt_lexeme.specs.declared.language.Language.TheVariants.{Profile, Dtc}
-use Rattle.dt_lexeme.specs.declared.lexeme.Lexeme.{Lexeme}
-use Rattle.dt_lexeme.specs.declared.lexeme.Fault.{Fault}
-use Rattle.dt_lexeme.specs.declared.lexeme.Kind.{Kind}
-use Rattle.dt_lexeme.specs.declared.lexeme.Kind.TheVariants.{Version, Plugin, MemReserve, Bits, DeleteNode, DeleteProperty, OmitIfNoRef, IncludeBinary, Label, Name, Literal, Text, Reference, PathReference, Pair, Semicolon, Brace, EndBrace, Equals, Comma, Less, Greater, Square, EndSquare, Paren, EndParen, Slash}
-use Rattle.dt_expression.specs.declared.elements.Width.{Width}
-use Rattle.dt_expression.specs.declared.elements.Width.TheVariants.{ThirtyTwo}
+use Rattle.dt_text.specs.declared.lexeme.language.Language.{Language}
+use Rattle.dt_text.specs.declared.lexeme.language.Language.TheVariants.{Profile, Dtc}
+use Rattle.dt_text.specs.declared.lexeme.lexeme.Lexeme.{Lexeme}
+use Rattle.dt_text.specs.declared.lexeme.lexeme.Fault.{Fault}
+use Rattle.dt_text.specs.declared.lexeme.lexeme.Kind.{Kind}
+use Rattle.dt_text.specs.declared.lexeme.lexeme.Kind.TheVariants.{Version, Plugin, MemReserve, Bits, DeleteNode, DeleteProperty, OmitIfNoRef, IncludeBinary, Label, Name, Literal, Text, Reference, PathReference, Pair, Semicolon, Brace, EndBrace, Equals, Comma, Less, Greater, Square, EndSquare, Paren, EndParen, Slash}
+use Rattle.dt_text.specs.declared.expression.elements.Width.{Width}
+use Rattle.dt_text.specs.declared.expression.elements.Width.TheVariants.{ThirtyTwo}
 use Rattle.dt_source.specs.declared.cell.Cell.{Cell}
 use Rattle.dt_source.specs.declared.cell.Cell.TheVariants as cells
-use Rattle.dt_expression.specs.Expression.{Expression, Begins, Takes, Deeper, SpellsPrimary}
-use Rattle.dt_expression.specs.Values.{Value, literal_of, value_of}
+use Rattle.dt_text.specs.Expression.Expression.{Expression, Begins, Takes, Deeper, SpellsPrimary}
+use Rattle.dt_text.specs.Expression.Values.{Value, literal_of, value_of}
 use Rattle.dt_source.specs.Sequences.{SpellsEach}
-use Rattle.dt_meaning.specs.Syntax.{Piece, Plain, PathOf, Entry, Defines, Undefines, Child, Removes, body_of, Edit, Rooted, Extends, Deletes, Omits, Meaning}
+use Rattle.dt_source.specs.TreeMeaning.Syntax.{Piece, Plain, PathOf, Entry, Defines, Undefines, Child, Removes, body_of, Edit, Rooted, Extends, Deletes, Omits, Meaning}
 use Rattle.dt_source.specs.Strings.{string_bytes, string_faults, pair_byte}
 use Rattle.dt_source.specs.Pieces.{target_of, width_at, width_in, fault_in, cell_fault, cells_pieces, portion_pieces, joined}
 use Rattle.dt_source.specs.Marks.{is_mark, omits, labels_in}

@@ -2,10 +2,10 @@
 use Rattle.std.specs.Prelude.{ℕ, List, codes}
 use Rattle.dt_source.specs.declared.error.SourceErrorKind.{SourceErrorKind}
 use Rattle.dt_source.specs.declared.error.SourceErrorKind.TheVariants as kinds
-use Rattle.dt_lexeme.specs.declared.lexeme.FaultKind.{FaultKind}
-use Rattle.dt_lexeme.specs.declared.lexeme.FaultKind.TheVariants.{ElementRange, DivideByZero, BadBits, LiteralRange, BadEscape}
-use Rattle.dt_lexeme.specs.declared.lexeme.RefusalKind.{RefusalKind}
-use Rattle.dt_lexeme.specs.declared.lexeme.RefusalKind.TheVariants.{Syntax, TooDeep}
+use Rattle.dt_text.specs.declared.lexeme.lexeme.FaultKind.{FaultKind}
+use Rattle.dt_text.specs.declared.lexeme.lexeme.FaultKind.TheVariants.{ElementRange, DivideByZero, BadBits, LiteralRange, BadEscape}
+use Rattle.dt_text.specs.declared.lexeme.lexeme.RefusalKind.{RefusalKind}
+use Rattle.dt_text.specs.declared.lexeme.lexeme.RefusalKind.TheVariants.{Syntax, TooDeep}
 
 abbrev pub number_of : SourceErrorKind → ℕ
 number_of kinds.NoMemory = 0

@@ -1,12 +1,12 @@
 -- Strings and byte strings: the bytes between the quotes, and pairs of hex digits
 -- (Devicetree Specification v0.4, section 6.3: strings with escapes as in C, bytestrings).
 use Rattle.std.specs.Prelude.{ℕ, zero, suc, ◌+◌, ◌-◌, ◌*◌, ◌%◌, List, [], ◌∷◌, ◌++◌, Option, Some, None, Ok, Err, ◌==◌, if◌then◌else◌, slice_range}
-use Rattle.dt_lexeme.specs.declared.language.Language.{Language}
-use Rattle.dt_lexeme.specs.declared.lexeme.Lexeme.{Lexeme}
-use Rattle.dt_lexeme.specs.declared.lexeme.Fault.{Fault}
-use Rattle.dt_lexeme.specs.declared.lexeme.FaultKind.TheVariants.{BadEscape}
-use Rattle.dt_expression.specs.Values.{Value, digit_of}
-use Rattle.dt_expression.specs.Escape.{escape_at}
+use Rattle.dt_text.specs.declared.lexeme.language.Language.{Language}
+use Rattle.dt_text.specs.declared.lexeme.lexeme.Lexeme.{Lexeme}
+use Rattle.dt_text.specs.declared.lexeme.lexeme.Fault.{Fault}
+use Rattle.dt_text.specs.declared.lexeme.lexeme.FaultKind.TheVariants.{BadEscape}
+use Rattle.dt_text.specs.Expression.Values.{Value, digit_of}
+use Rattle.dt_text.specs.Expression.Escape.{escape_at}
 
 -- the fault of a backslash is at its place
 abbrev pub escaped : ℕ → Option ℕ → Value

@@ -1,6 +1,6 @@
 -- What parsed values say, without where they lie in memory.
 use Rattle.std.specs.Prelude.{ℕ, List, [], Option, Some, None, map}
-use Rattle.dt_meaning.specs.Syntax.{Target, OfLabel, OfPath, Piece, Plain, PhandleOf, PathOf, Stored, Entry, Defines, Undefines, Child, Removes, Body, body_of, Edit, Rooted, Extends, Deletes, Omits}
+use Rattle.dt_source.specs.TreeMeaning.Syntax.{Target, OfLabel, OfPath, Piece, Plain, PhandleOf, PathOf, Stored, Entry, Defines, Undefines, Child, Removes, Body, body_of, Edit, Rooted, Extends, Deletes, Omits}
 use Rattle.dt_source.specs.declared.labels.Labels.{Labels}
 use Rattle.dt_source.specs.declared.tree.Reference.{Reference}
 use Rattle.dt_source.specs.declared.tree.Reference.TheVariants as references

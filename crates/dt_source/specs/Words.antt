@@ -1,6 +1,6 @@
 -- What labels and names are in the text, and bytes one after the other.
 use Rattle.std.specs.Prelude.{ℕ, ◌-◌, List, [], ◌∷◌, ◌++◌, slice_range}
-use Rattle.dt_lexeme.specs.declared.lexeme.Lexeme.{Lexeme}
+use Rattle.dt_text.specs.declared.lexeme.lexeme.Lexeme.{Lexeme}
 
 -- without the colon
 abbrev pub label_bytes : List ℕ → Lexeme → List ℕ

@@ -1,6 +1,6 @@
 //! Bodies.
 ghost use Rattle.std.specs.Prelude.{◌≡◌, ◌<◌, ◌||◌, ◌∷◌, Some, length, IfOk};
-ghost use Rattle.dt_expression.specs.Reading.{Gives};
+ghost use Rattle.dt_text.specs.Expression.Reading.{Gives};
 ghost use Rattle.dt_source.specs.Reading.Returned.{ReadsStatement, ReadsBody};
 ghost use Rattle.dt_source.specs.Tree.{view};
 ghost use Rattle.dt_source.specs.Marks.{omits};
@@ -14,8 +14,8 @@ use crate::reading::{Read, ReadBody, ReadStatement, semicolon};
 use crate::room::push_sparingly;
 use crate::string::earlier;
 use crate::tree::{PlacedName, Statement, delete_node, delete_property, node, property};
-use dt_expression::{bytes_of, syntax_at, too_deep};
-use dt_lexeme::{Fault, Kind, Language, Lexeme, ReadError, Refusal};
+use dt_text::expression::{bytes_of, syntax_at, too_deep};
+use dt_text::lexeme::{Fault, Kind, Language, Lexeme, ReadError, Refusal};
 use std::alloc::{AllocError, Global};
 
 /// How many levels of bodies may stand in an item's body: as deep as nodes of a tree.

@@ -1,5 +1,5 @@
 //! Cells.
-use dt_lexeme::{Fault, Lexeme};
+use dt_text::lexeme::{Fault, Lexeme};
 
 /// What stands between `<` and `>`: an element with the place of its first byte and its value, a reference, or a
 /// label, which is dropped.

@@ -1,6 +1,6 @@
 //! Cells and byte strings.
 ghost use Rattle.std.specs.Prelude.{◌≡◌, ◌<◌, ◌++◌, length, None, IfOk, OnOk, option_map};
-ghost use Rattle.dt_expression.specs.Reading.{Gives};
+ghost use Rattle.dt_text.specs.Expression.Reading.{Gives};
 ghost use Rattle.dt_source.specs.Reading.Several.{Reads};
 ghost use Rattle.dt_source.specs.Reading.Returned.{Pushes};
 ghost use Rattle.dt_source.specs.Pieces.{fault_in, cell_fault, cell_pieces, element_pieces};
@@ -14,8 +14,8 @@ use crate::reading::Pushed;
 use crate::references::{reference_fault, target};
 use crate::string::{earlier, pair};
 use crate::tree::Part;
-use dt_expression::{Width, element as within, primary, push_low_bytes, syntax_at};
-use dt_lexeme::{Fault, Kind, Lexeme, ReadError, Refusal};
+use dt_text::expression::{Width, element as within, primary, push_low_bytes, syntax_at};
+use dt_text::lexeme::{Fault, Kind, Lexeme, ReadError, Refusal};
 use std::alloc::{AllocError, Global};
 
 fn element<'a>(

@@ -3,7 +3,7 @@ ghost use Rattle.std.specs.Prelude.{◌≡◌};
 ghost use Rattle.dt_source.specs.SourceError.{number_of, name_of, kind_of_fault, kind_of_refusal};
 
 use crate::place::Place;
-use dt_lexeme::{FaultKind, RefusalKind};
+use dt_text::lexeme::{FaultKind, RefusalKind};
 use std::fmt;
 use thiserror::Error;
 

@@ -1,6 +1,6 @@
 //! Parts of files in values: `/incbin/("NAME")` and `/incbin/("NAME", OFFSET, LENGTH)`.
 ghost use Rattle.std.specs.Prelude.{◌≡◌, ◌<◌, length, IfOk, OnOk};
-ghost use Rattle.dt_expression.specs.Reading.{Gives};
+ghost use Rattle.dt_text.specs.Expression.Reading.{Gives};
 ghost use Rattle.dt_source.specs.Pieces.{portion_pieces};
 ghost use Rattle.dt_source.specs.Reading.Several.{Reads};
 ghost use Rattle.dt_source.specs.Reading.Files.{paren_at, end_paren_at, separator_at, file_name_at};
@@ -13,8 +13,8 @@ use crate::parts::Parts;
 use crate::reading::Pushed;
 use crate::string::{earlier, string_of};
 use crate::tree::{FilePart, Part};
-use dt_expression::{primary, syntax_at};
-use dt_lexeme::{Fault, Kind, Language, Lexeme, ReadError, Refusal};
+use dt_text::expression::{primary, syntax_at};
+use dt_text::lexeme::{Fault, Kind, Language, Lexeme, ReadError, Refusal};
 use std::alloc::{AllocError, Global};
 
 /// An offset and a length, where they are given.

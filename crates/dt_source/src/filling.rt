@@ -10,7 +10,7 @@ ghost use Rattle.dt_source.specs.Tree.{part_view, view, views, item_view};
 
 use crate::parts::Parts;
 use crate::tree::{FilePart, Item, Part, Statement};
-use dt_lexeme::{Binary, ReadError, Refusal, RefusalKind};
+use dt_text::lexeme::{Binary, ReadError, Refusal, RefusalKind};
 use std::alloc::{AllocError, Global};
 use std::mem;
 use std::vec::IntoIter;

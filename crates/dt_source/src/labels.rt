@@ -4,7 +4,7 @@ ghost use Rattle.dt_source.specs.Words.{label_bytes};
 ghost use Rattle.dt_source.specs.Tree.{labels_view};
 
 use crate::string::bytes_between;
-use dt_lexeme::Lexeme;
+use dt_text::lexeme::Lexeme;
 use std::alloc::{AllocError, Global};
 
 /// Labels in the order of the text, without their colons. They take two words, since most nodes have none and a text

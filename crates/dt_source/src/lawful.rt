@@ -1,7 +1,7 @@
 //! What a source names is lawful, and its bodies are lists.
 ghost use Rattle.std.specs.Prelude.{ℕ, List};
-ghost use Rattle.dt_lexeme.specs.declared.language.Language.{Language};
-ghost use Rattle.dt_meaning.specs.Syntax.{Meaning};
+ghost use Rattle.dt_text.specs.declared.lexeme.language.Language.{Language};
+ghost use Rattle.dt_source.specs.TreeMeaning.Syntax.{Meaning};
 ghost use Rattle.dt_source.specs.Parse.{Says};
 ghost use Rattle.dt_source.specs.Lawful.{IsLawful};
 ghost use Rattle.dt_source.specs.BodyLaws.{StatementsOfABody, BodyOfItsStatements, BodiesAreLawfulByStatements};

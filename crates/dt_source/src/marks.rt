@@ -7,7 +7,7 @@ ghost use Rattle.dt_source.specs.Words.{label_bytes};
 
 use crate::labels::{Labels, label_text};
 use crate::pieces::is_label;
-use dt_lexeme::{Kind, Lexeme};
+use dt_text::lexeme::{Kind, Lexeme};
 use std::alloc::{AllocError, Global};
 
 fn is_mark(kind: Kind) -> bool

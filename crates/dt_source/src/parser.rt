@@ -1,10 +1,10 @@
 //! A text, parsed.
 ghost use Rattle.std.specs.Prelude.{◌≡◌, ℕ, List, IfOk, IfErr};
 ghost use Rattle.dt_source.specs.declared.error.SourceErrorKind.TheVariants.{TooLong};
-ghost use Rattle.dt_lexeme.specs.declared.language.Language.{Language};
-ghost use Rattle.dt_lexeme.specs.declared.lexeme.Fault.{Fault};
+ghost use Rattle.dt_text.specs.declared.lexeme.language.Language.{Language};
+ghost use Rattle.dt_text.specs.declared.lexeme.lexeme.Fault.{Fault};
 ghost use Rattle.dt_source.specs.Laws.{OnlyMemoryRefusesWhatIsSaid, OnlyMemoryAndTheFaultRefuse};
-ghost use Rattle.dt_meaning.specs.Syntax.{Meaning};
+ghost use Rattle.dt_source.specs.TreeMeaning.Syntax.{Meaning};
 ghost use Rattle.dt_source.specs.Meaning.{meaning_of, outlined};
 ghost use Rattle.dt_source.specs.Source.{SourceTree};
 ghost use Rattle.dt_source.specs.Places.{beginning};
@@ -15,7 +15,7 @@ use crate::place::Place;
 use crate::refusals::{error_of, fault_error, refused_at};
 use crate::source::source;
 use crate::tree::{Outline, Source};
-use dt_lexeme::{Fault, Language, ReadError, scan_front};
+use dt_text::lexeme::{Fault, Language, ReadError, scan_front};
 use std::alloc::Global;
 
 /// The longest text of a source, in bytes: 16 MiB.

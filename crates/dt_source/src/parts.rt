@@ -1,13 +1,13 @@
 //! The parts of a value while it is read.
 ghost use Rattle.std.specs.Prelude.{◌≡◌, [], map, IfOk, OnOk};
-ghost use Rattle.dt_meaning.specs.Syntax.{Plain};
+ghost use Rattle.dt_source.specs.TreeMeaning.Syntax.{Plain};
 ghost use Rattle.dt_source.specs.Tree.{part_view};
-ghost use Rattle.dt_expression.specs.Element.{bytes_in, low_bytes};
+ghost use Rattle.dt_text.specs.Expression.Element.{bytes_in, low_bytes};
 ghost use Rattle.dt_source.specs.Reading.Values.{built, flushed, closed_by, put};
 
 use crate::room::push_sparingly;
 use crate::tree::Part;
-use dt_expression::{Width, push_low_bytes};
+use dt_text::expression::{Width, push_low_bytes};
 use std::alloc::{AllocError, Global};
 use std::mem;
 

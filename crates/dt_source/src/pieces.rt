@@ -16,8 +16,8 @@ use crate::reading::{Pushed, Read};
 use crate::references::target;
 use crate::string::{earlier, string_of};
 use crate::tree::Part;
-use dt_expression::{Width, literal, syntax_at, width_of};
-use dt_lexeme::{Fault, FaultKind, Kind, Language, Lexeme, ReadError};
+use dt_text::expression::{Width, literal, syntax_at, width_of};
+use dt_text::lexeme::{Fault, FaultKind, Kind, Language, Lexeme, ReadError};
 use std::alloc::Global;
 
 /// Whether it is a label.

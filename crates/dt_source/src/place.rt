@@ -2,7 +2,7 @@
 ghost use Rattle.std.specs.Prelude.{◌≡◌};
 ghost use Rattle.dt_source.specs.Places.{place_at};
 
-use dt_lexeme::line_of;
+use dt_text::lexeme::line_of;
 
 /// A place in a text: its offset in bytes, which is the length where the text ends too soon, and its line, from 1.
 #[derive(Debug, Clone, Copy, PartialEq, Eq, Drop)]

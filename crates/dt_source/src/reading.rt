@@ -1,11 +1,11 @@
 //! What reading returns.
 ghost use Rattle.std.specs.Prelude.{◌<◌, length, IfOk};
-ghost use Rattle.dt_expression.specs.Reading.{Gives};
+ghost use Rattle.dt_text.specs.Expression.Reading.{Gives};
 ghost use Rattle.dt_source.specs.Reading.Bodies.{semicolon_at};
 
 use crate::tree::{Item, Reference, Statement};
-use dt_expression::syntax_at;
-use dt_lexeme::{Fault, Kind, Lexeme, ReadError, Refusal};
+use dt_text::expression::syntax_at;
+use dt_text::lexeme::{Fault, Kind, Lexeme, ReadError, Refusal};
 
 /// What was found, its first fault, and the lexemes behind it.
 #[derive(Drop)]

@@ -5,9 +5,9 @@ ghost use Rattle.dt_source.specs.Pieces.{target_of, reference_fault};
 
 use crate::string::bytes_between;
 use crate::tree::Reference;
-use dt_expression::Width;
-use dt_lexeme::fronts::path_of;
-use dt_lexeme::{Fault, FaultKind, Kind, Lexeme};
+use dt_text::expression::Width;
+use dt_text::lexeme::fronts::path_of;
+use dt_text::lexeme::{Fault, FaultKind, Kind, Lexeme};
 
 /// What a reference names.
 pub(crate) fn target(text: &[u8], l: Lexeme) -> Reference<'_>

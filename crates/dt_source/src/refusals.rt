@@ -1,12 +1,12 @@
 //! How a text is refused: by what can't be read, or by the first fault of a value.
 ghost use Rattle.std.specs.Prelude.{◌≡◌};
-ghost use Rattle.dt_lexeme.specs.declared.language.Language.{Language};
+ghost use Rattle.dt_text.specs.declared.lexeme.language.Language.{Language};
 ghost use Rattle.dt_source.specs.Parse.{IsShort, HasFirstFault, Refuses, IfRefused, refused_at};
 
 use crate::error::{SourceError, SourceErrorKind, kind_of_fault, kind_of_refusal};
 use crate::place::{Place, place_at};
 use crate::tree::Outline;
-use dt_lexeme::{Fault, ReadError, Refusal, RefusalKind};
+use dt_text::lexeme::{Fault, ReadError, Refusal, RefusalKind};
 
 /// The refusal of a text that has no lexeme at this place: what is refused before it, or else that place.
 pub(crate) fn refused_at(

@@ -1,7 +1,7 @@
 //! Sources as they are read: headers, reservations and items.
 ghost use Rattle.std.specs.Prelude.{◌≡◌, ◌≤◌, ◌<◌, ◌++◌, ◌∷◌, None, Some, map, length};
 ghost use Rattle.std.specs.Prelude.{IfOk, OnOk, IfSome};
-ghost use Rattle.dt_expression.specs.Reading.{Gives};
+ghost use Rattle.dt_text.specs.Expression.Reading.{Gives};
 ghost use Rattle.dt_source.specs.Reading.Several.{Reads};
 ghost use Rattle.dt_source.specs.Reading.Returned.{ReadsItem, ReadsItemBody, ReadsTarget};
 ghost use Rattle.dt_source.specs.Tree.{views, item_view};
@@ -23,8 +23,8 @@ use crate::reading::{Read, ReadBody, ReadItem, ReadReserve, ReadTarget, semicolo
 use crate::references::target;
 use crate::string::earlier;
 use crate::tree::{Item, Outline, Statement};
-use dt_expression::{primary, syntax_at};
-use dt_lexeme::{Fault, Kind, Language, Lexeme, ReadError, Refusal};
+use dt_text::expression::{primary, syntax_at};
+use dt_text::lexeme::{Fault, Kind, Language, Lexeme, ReadError, Refusal};
 use std::alloc::{AllocError, Global};
 
 fn plugin(ts: &[Lexeme]) -> Result<(bool, &[Lexeme]), Refusal>

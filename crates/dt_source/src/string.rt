@@ -6,8 +6,8 @@ ghost use Rattle.dt_source.specs.Strings.{char_step, char_fault, char_number, st
 ghost use Rattle.dt_source.specs.Reading.Several.{earlier};
 ghost use Rattle.dt_source.specs.Order.{first_of};
 
-use dt_expression::{bytes_of, digit_of, escape};
-use dt_lexeme::{Fault, FaultKind, Language, Lexeme};
+use dt_text::expression::{bytes_of, digit_of, escape};
+use dt_text::lexeme::{Fault, FaultKind, Language, Lexeme};
 use std::alloc::{AllocError, Global};
 
 /// What stands between two places of the text.

@@ -1,7 +1,7 @@
 //! What a source says.
 ghost use Rattle.std.specs.Prelude.{◌≡◌, ◌≤◌, map, All};
-ghost use Rattle.dt_lexeme.specs.Limits.{text_limit};
-ghost use Rattle.dt_meaning.specs.Syntax.{Defines, Undefines, Child, Removes};
+ghost use Rattle.dt_text.specs.Lexeme.Limits.{text_limit};
+ghost use Rattle.dt_source.specs.TreeMeaning.Syntax.{Defines, Undefines, Child, Removes};
 ghost use Rattle.dt_source.specs.Tree.{reference_at, labels_view, view, views, part_view, item_view};
 ghost use Rattle.dt_source.specs.Lawful.{IsLawfulEdit};
 ghost use Rattle.dt_source.specs.Counts.{how_many};
@@ -9,7 +9,7 @@ ghost use Rattle.dt_source.specs.LawfulOnce.{edits_once};
 
 use crate::filling::fill_items;
 use crate::labels::Labels;
-use dt_lexeme::{Binary, ReadError};
+use dt_text::lexeme::{Binary, ReadError};
 use std::alloc::Global;
 
 /// What a reference names: a label, or the path of a node.

@@ -7,10 +7,10 @@ pub mod Descent
 pub mod FirstName
 pub mod GreatestLaws
 pub mod Looks
+pub mod MapLaws
 pub mod MergeCall
 pub mod MergeLaws
 pub mod MergedSound
-pub mod MapLaws
 pub mod NameLists
 pub mod NameMaps
 pub mod OneNode
@@ -22,5 +22,6 @@ pub mod PreorderLaws
 pub mod ReservedLaws
 pub mod SeenNames
 pub mod SiblingsLemmas
+pub mod SortLemmas
 pub mod Steps
 pub mod StillSound

@@ -2,9 +2,10 @@ pub mod Cell
 pub mod Changes
 pub mod Falls
 pub mod Fault
+pub mod Key
 pub mod Limits
-pub mod Name
 pub mod Merged
+pub mod Name
 pub mod NodeCode
 pub mod NodeData
 pub mod NodeView
@@ -13,6 +14,7 @@ pub mod PathMap
 pub mod Phandle
 pub mod Preorder
 pub mod Private
+pub mod Sort
 pub mod Sound
 pub mod Steps
 pub mod TreeData

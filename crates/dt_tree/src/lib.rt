@@ -7,6 +7,7 @@ mod bytes;
 mod cells;
 mod error;
 mod finding;
+pub mod key;
 mod laws;
 mod limits;
 mod making;
@@ -17,7 +18,9 @@ mod phandle;
 mod property;
 mod reserved;
 mod slices;
+pub mod sort;
 mod tree;
+pub mod written_paths;
 
 pub use bytes::Bytes;
 pub use cells::{cell_at, cell_in};

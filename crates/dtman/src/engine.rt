@@ -1,10 +1,10 @@
 //! The engines as dtc's command line calls them.
 
-use dt_include::Binary;
-use dt_lexeme::Language;
+use dt_text::include::Binary;
+use dt_text::lexeme::Language;
+use dtman_cli::dtc::{Compilation, Compiled, Compiler, Fault, Texts, layout_bytes};
 use dtman_cli::{Again, faults_behind, name_of};
 use dtman_diagnosis::{Found, Refused, dtc_span};
-use dtman_dtc::{Compilation, Compiled, Compiler, Fault, Texts, layout_bytes};
 use dtman_engine::{DtcOptions, compile_dtc, copy_bytes, overlay_bytes, sort_bytes};
 use std::alloc::{AllocError, Global};
 use std::hash::RandomState;

@@ -1,6 +1,6 @@
 //! The system's files and standard streams, as dtc's command line asks for them.
 
-use dtman_dtc::{Entry, EntryKind, Host, Unread, Unwritten};
+use dtman_cli::dtc::{Entry, EntryKind, Host, Unread, Unwritten};
 use dtman_engine::{FileChannel, MAX_BLOB_LEN, OutputChannel, read_all, write_out};
 use std::alloc::Global;
 use std::hash::RandomState;

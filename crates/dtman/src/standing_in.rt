@@ -2,8 +2,8 @@
 
 use crate::engine::Engine;
 use crate::files::System;
-use dtman_dtc::{run_dtc, run_fdtoverlay};
-use dtman_fdt::{run_fdtdump, run_fdtget, run_fdtput};
+use dtman_cli::dtc::{run_dtc, run_fdtoverlay};
+use dtman_cli::fdt::{run_fdtdump, run_fdtget, run_fdtput};
 use std::env;
 use std::random::RandomSource;
 use std::rt::{Env, Files};

@@ -4,7 +4,7 @@ use Rattle.std.specs.Prelude.{◌↔◌, ◌==◌, IsTrue}
 use Rattle.std.proofs.lemmas.Bool.Decides.{Decides-eqb}
 use Rattle.dt_tree.specs.TreeData.{TreeData}
 use Rattle.dt_tree.proofs.Places.{both}
-use Rattle.dt_diff.specs.SameBoard.{IsSameBoard}
+use Rattle.dtman_blobs.specs.Difference.SameBoard.{IsSameBoard}
 use Rattle.dtman_blobs.specs.declared.diffing.Sameness.{Sameness}
 use Rattle.dtman_blobs.specs.declared.diffing.Sameness.TheVariants.{Board, InOrder}
 use Rattle.dtman_blobs.specs.Diff.{IsSame, TellsMoved}

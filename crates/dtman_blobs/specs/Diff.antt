@@ -4,9 +4,9 @@ use Rattle.std.specs.Prelude.{◌≡◌, ◌↔◌, ◌==◌, ◌&&◌, ℕ, Boo
 use Rattle.dt_tree.specs.TreeData.{TreeData}
 use Rattle.dt_blob.specs.declared.error.BlobError.TheVariants.{NoMemory}
 use Rattle.dt_blob.specs.Holds.{Holds}
-use Rattle.dt_diff.specs.Comparison.{is_same}
-use Rattle.dt_diff.specs.SameBoard.{IsSameBoard}
-use Rattle.dt_diff.specs.SameOrder.{IsSameInOrder, TellsOrder}
+use Rattle.dtman_blobs.specs.Difference.Comparison.{is_same}
+use Rattle.dtman_blobs.specs.Difference.SameBoard.{IsSameBoard}
+use Rattle.dtman_blobs.specs.Difference.SameOrder.{IsSameInOrder, TellsOrder}
 use Rattle.dtman_blobs.specs.declared.diffing.Outcome.{Outcome}
 use Rattle.dtman_blobs.specs.declared.diffing.DiffError.{DiffError}
 use Rattle.dtman_blobs.specs.declared.diffing.DiffError.TheVariants.{First, Second, Text}

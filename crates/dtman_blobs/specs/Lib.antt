@@ -1,2 +1,3 @@
 pub mod Diff
+pub mod Difference
 pub mod Width

@@ -1,12 +1,12 @@
 //! Nodes and values of a blob, asked for and set by the words of a command line.
 
+use crate::difference::Naming;
 use crate::saying::{SayError, are_numbers, said};
 use crate::showing::{ShowError, shown};
 use crate::source_lines::add_plain_property;
 use crate::value_type::{Notation, ValueType};
+use dt_blob::query::{QueryError, get, set};
 use dt_blob::{BlobError, read};
-use dt_diff::Naming;
-use dt_query::{QueryError, get, set};
 use dt_tree::{Bytes, Name, Node, Path, TreeError};
 use std::alloc::{AllocError, Global};
 use std::hash::RandomState;

@@ -1,11 +1,11 @@
 //! What differs, as a patch of sources.
 ghost use Rattle.std.specs.Prelude.{◌<◌, IfOk, length};
 
+use crate::difference::{Comparison, Difference, Naming, Side, Thing};
 use crate::diffing::{Outcome, Titles};
 use crate::order_lines::add_moved;
 use crate::source_lines::{add_node, add_property, shown_path};
 use dt_blob::BlobError;
-use dt_diff::{Comparison, Difference, Naming, Side, Thing};
 use dt_tree::Tree;
 use std::alloc::{AllocError, Global};
 use std::hash::RandomState;

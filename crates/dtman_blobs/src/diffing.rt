@@ -5,8 +5,8 @@ ghost use Rattle.dt_blob.specs.Holds.{Holds};
 ghost use Rattle.dtman_blobs.specs.Diff.{IsDiffRefusal, IsOfText, IsSame, TellsMoved, TellsSame, are_same};
 
 use crate::diff_text::difference_text;
+use crate::difference::{Comparison, Reordered, compare, compare_order};
 use dt_blob::{BlobError, read};
-use dt_diff::{Comparison, Reordered, compare, compare_order};
 use dt_tree::Tree;
 use std::alloc::{AllocError, Global};
 use std::hash::RandomState;

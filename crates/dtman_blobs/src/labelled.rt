@@ -2,9 +2,9 @@
 //!
 //! dtc's manual (Documentation/dt-object-internal.txt, section 1) says what `__symbols__` has.
 
+use crate::difference::{Naming, Part, Seen};
 use crate::source_lines::{add_canonical, add_hex, add_path, add_tabs, has_cells, head_of};
 use dt_blob::{BlobError, read};
-use dt_diff::{Naming, Part, Seen};
 use dt_tree::{Node, Property, Tree};
 use std::alloc::{AllocError, Global};
 use std::collections::BTreeMap;

@@ -3,6 +3,7 @@
 
 mod asking;
 mod diff_text;
+pub mod difference;
 mod diffing;
 mod labelled;
 mod order_lines;

@@ -1,7 +1,7 @@
 //! Lines of what both blobs have in another order.
 
 use crate::diff_text::add_place;
-use dt_diff::{Kind, Reordered};
+use crate::difference::{Kind, Reordered};
 use std::alloc::AllocError;
 
 /// Where two lists of names differ first, and behind where last.

@@ -1,7 +1,7 @@
 //! Properties and nodes as lines of a source, each behind a mark.
 
+use crate::difference::{Form, Naming, Part, Seen, is_own_phandle};
 use dt_blob::{BlobError, source_text};
-use dt_diff::{Form, Naming, Part, Seen, is_own_phandle};
 use dt_tree::{Node, Property, Tree};
 use std::alloc::{AllocError, Global};
 

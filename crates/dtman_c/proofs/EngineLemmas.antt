@@ -1,12 +1,12 @@
 -- What an engine's clauses say of its result, they say of the bytes or the fault that it shows.
 use Rattle.std.proofs.Common.{◌≡◌, ◌↔◌, ◌⊎◌, inr, ap, ℕ, Bool, List, Result, Ok, Err, Some, IfOk, IfErr, IsErrAnd, MatchResult}
-use Rattle.dt_lexeme.specs.declared.binary.Binary.{Binary}
-use Rattle.dt_lexeme.specs.declared.language.Language.TheVariants.{Dtc, Profile}
-use Rattle.dt_lexeme.specs.declared.lexeme.Refusal.{Refusal}
+use Rattle.dt_text.specs.declared.lexeme.binary.Binary.{Binary}
+use Rattle.dt_text.specs.declared.lexeme.language.Language.TheVariants.{Dtc, Profile}
+use Rattle.dt_text.specs.declared.lexeme.lexeme.Refusal.{Refusal}
 use Rattle.dt_tree.specs.TreeData.{TreeData}
 use Rattle.dt_source.specs.Filled.{filled}
 use Rattle.dt_source.specs.Parse.{Says}
-use Rattle.dt_meaning.specs.Syntax.{Meaning}
+use Rattle.dt_source.specs.TreeMeaning.Syntax.{Meaning}
 use Rattle.dt_blob.specs.declared.error.BlobError.{BlobError}
 use Rattle.dt_blob.specs.declared.error.BlobError.TheVariants.{Truncated, BadMagic, BadVersion, BadLayout, TooLarge}
 use Rattle.dt_blob.specs.HeaderWords.{header_fault}

@@ -3,8 +3,8 @@ use Rattle.std.specs.Prelude.{◌≡◌, ◌⊎◌, ℕ, List, length, Option, S
 use Rattle.bus_plan.specs.Plan.{PlannedDevice}
 use Rattle.bus_plan.specs.PlanFile.{reading}
 use Rattle.bus_plan.specs.declared.error.PlanError.{PlanError}
-use Rattle.bus_seat.specs.Calls.{IsOpened}
-use Rattle.bus_seat.specs.Shown.{Placed}
+use Rattle.bus_board.specs.Seats.Calls.{IsOpened}
+use Rattle.bus_board.specs.Seats.Shown.{Placed}
 use Rattle.dtman_engine.specs.Fault.{FaultValue, no_memory}
 use Rattle.dtman_engine.specs.TextFaults.{text_fault}
 use Rattle.dtman_c.specs.Crossing.{refused, written}

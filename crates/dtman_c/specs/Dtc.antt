@@ -1,11 +1,11 @@
 -- The clauses of `compile_dtc`, over files and an answer as a caller sees them.
 use Rattle.std.specs.Prelude.{◌≡◌, ◌⊎◌, ℕ, List, map, if◌then◌else◌, Some, None, Result, Ok, Err, IfOk, IfErr, IsErrAnd, MatchResult}
-use Rattle.dt_lexeme.specs.declared.binary.Binary.{Binary}
-use Rattle.dt_lexeme.specs.declared.language.Language.TheVariants.{Dtc}
-use Rattle.dt_lexeme.specs.declared.lexeme.Refusal.{Refusal}
+use Rattle.dt_text.specs.declared.lexeme.binary.Binary.{Binary}
+use Rattle.dt_text.specs.declared.lexeme.language.Language.TheVariants.{Dtc}
+use Rattle.dt_text.specs.declared.lexeme.lexeme.Refusal.{Refusal}
 use Rattle.dt_source.specs.Filled.{filled}
 use Rattle.dt_source.specs.Parse.{Says}
-use Rattle.dt_meaning.specs.Syntax.{Meaning}
+use Rattle.dt_source.specs.TreeMeaning.Syntax.{Meaning}
 use Rattle.dtman_engine.specs.CompileDtc.{IsDtcCompiled, IsDtcRefusal, dtc_meant, lacking}
 use Rattle.dtman_engine.specs.Fault as engine
 use Rattle.dtman_engine.specs.Fault.{FaultValue, fault_value, no_memory}

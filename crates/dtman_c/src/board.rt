@@ -1,14 +1,14 @@
 //! The board, for kernels that probe on threads of their own: a seat behind a handle in the caller's memory, and each call the board's.
 ghost use Rattle.std.specs.Prelude.{◌≡◌, None, IfOk, IfErr};
-ghost use Rattle.bus_seat.specs.Calls.{AreOfOne, Closes, Defers, GivesBack, Looks, OnSeat, Seats, Settles, Takes, WakesOwed};
-ghost use Rattle.bus_seat.specs.Handles.{seated};
+ghost use Rattle.bus_board.specs.Seats.Calls.{AreOfOne, Closes, Defers, GivesBack, Looks, OnSeat, Seats, Settles, Takes, WakesOwed};
+ghost use Rattle.bus_board.specs.Seats.Handles.{seated};
 ghost use Rattle.dtman_engine.specs.Fault.{fault_value};
 ghost use Rattle.dtman_c.specs.Boards.{IsNoPlan, IsPlanOf, Opens, OpensPlan};
 
 use crate::answer::{Answer, WRITTEN, occupied, refusal, told};
 use crate::seed::hasher_of;
+use bus_board::seats::{SeatHandle, Told};
 use bus_plan::{Device, Plan, read_plan};
-use bus_seat::{SeatHandle, Told};
 use dtman_engine::Fault;
 use std::alloc::Global;
 

@@ -6,7 +6,7 @@ ghost use Rattle.dtman_c.specs.Dtc.{AreFiles, IsDtcAnswer, options_of, shown};
 
 use crate::answer::{Answer, give};
 use crate::seed::hasher_of;
-use dt_lexeme::Binary;
+use dt_text::lexeme::Binary;
 use dtman_engine::{DtcOptions, Fault, compile_dtc};
 use std::alloc::Global;
 

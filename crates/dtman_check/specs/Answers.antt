@@ -5,13 +5,13 @@ use Rattle.std.specs.Prelude.{List, [], ◌∷◌, slice_index_or, take, Option,
 use Rattle.std.specs.Option.{option_map_or}
 use Rattle.dt_tree.specs.NodeData.{NodeData}
 use Rattle.dt_check.specs.Nodes.{PlacedData, tree_nodes}
-use Rattle.dt_making.specs.declared.places.Places.{Places}
-use Rattle.dt_check_table.specs.declared.selection.Least.{Least}
-use Rattle.dt_check_table.specs.declared.selection.Least.TheVariants.{Warning, Error}
-use Rattle.dt_check_table.specs.declared.selection.Level.{Level}
-use Rattle.dt_check_table.specs.Finding.{FindingData}
-use Rattle.dt_check_table.specs.Run.{Tells}
-use Rattle.dt_check_table.specs.Selected.{SelectionData}
+use Rattle.dt_live.specs.declared.making.places.Places.{Places}
+use Rattle.dtman_check.specs.declared.table.selection.Least.{Least}
+use Rattle.dtman_check.specs.declared.table.selection.Least.TheVariants.{Warning, Error}
+use Rattle.dtman_check.specs.declared.table.selection.Level.{Level}
+use Rattle.dtman_check.specs.Table.Finding.{FindingData}
+use Rattle.dtman_check.specs.Table.Run.{Tells}
+use Rattle.dtman_check.specs.Table.Selected.{SelectionData}
 
 -- who is asked to say less has errors alone looked for
 abbrev pub least_of : ℕ → Least

@@ -1,7 +1,7 @@
 //! Reference sets, learned of boards that are known to be right.
+use crate::table::list_of;
 use dt_blob::{BlobError, read};
 use dt_check::Survey;
-use dt_check_table::list_of;
 use dt_tree::{Node, Tree};
 use std::alloc::{AllocError, Global};
 use std::collections::BTreeSet;

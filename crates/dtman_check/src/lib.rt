@@ -11,6 +11,7 @@ mod links;
 mod nodes;
 mod paths;
 mod places;
+pub mod table;
 mod words;
 mod writer;
 

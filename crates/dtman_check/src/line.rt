@@ -3,10 +3,10 @@ use crate::answer::Asked;
 use crate::escaping::quoted;
 use crate::paths::path_at;
 use crate::places::{Located, Site, path_above};
+use crate::table::{Finding, Selection, check_at};
 use crate::words::{Above, say};
 use crate::writer::Writer;
 use dt_check::Survey;
-use dt_check_table::{Finding, Selection, check_at};
 use std::alloc::{AllocError, Global};
 
 /// What a line looks like.

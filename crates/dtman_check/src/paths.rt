@@ -1,7 +1,7 @@
 //! Paths of the nodes of a survey.
 use dt_check::Survey;
+use dt_tree::written_paths::{Link, Parents, path_of};
 use std::alloc::{AllocError, Global};
-use trace_paths::{Link, Parents, path_of};
 
 #[derive(Drop)]
 struct Nodes<'s, 't> {

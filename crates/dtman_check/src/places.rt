@@ -1,8 +1,8 @@
 //! Where findings stand in the user's files.
 use crate::answer::Source;
+use crate::table::Finding;
 use dt_check::Survey;
-use dt_check_table::Finding;
-use dt_place::{Position, positions_of};
+use dt_text::place::{Position, positions_of};
 use dt_tree::Node;
 use std::alloc::{AllocError, Global};
 

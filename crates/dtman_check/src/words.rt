@@ -3,9 +3,9 @@ use crate::buses::{say_bridge, say_device, say_graph};
 use crate::links::{say_lists, say_nodes};
 use crate::nodes::{plain_words, say_numbers};
 use crate::places::Site;
+use crate::table::{Reference, check_at};
 use crate::writer::Writer;
 use dt_check::{Message, Survey};
-use dt_check_table::{Reference, check_at};
 use std::alloc::{AllocError, Global};
 
 // A prerequisite by its name.

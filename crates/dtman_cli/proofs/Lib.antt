@@ -1,2 +1,2 @@
-mod MetLemmas
 pub mod Making
+mod MetLemmas

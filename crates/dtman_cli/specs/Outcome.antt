@@ -1,14 +1,14 @@
 -- What `compile --dtc` answers of a source: what dtc's language makes of it with all that it takes in, or why that isn't whole
 -- (dtc 1.6, Documentation/manual.txt, section 4.1, and Documentation/dts-format.txt).
 use Rattle.std.specs.Prelude.{◌≡◌, ℕ, List, IfErr, IfOk, Result}
-use Rattle.dt_include.specs.Inclusion.{IsIncluded}
-use Rattle.dt_include.specs.Shortfall.{Stops}
-use Rattle.dt_include.specs.declared.inclusion.Found.{Found}
-use Rattle.dt_include.specs.declared.inclusion.Whole.{Whole}
-use Rattle.dt_lexeme.specs.declared.language.Language.TheVariants.{Dtc}
+use Rattle.dt_text.specs.Include.Inclusion.{IsIncluded}
+use Rattle.dt_text.specs.Include.Shortfall.{Stops}
+use Rattle.dt_text.specs.declared.include.inclusion.Found.{Found}
+use Rattle.dt_text.specs.declared.include.inclusion.Whole.{Whole}
+use Rattle.dt_text.specs.declared.lexeme.language.Language.TheVariants.{Dtc}
 use Rattle.dt_source.specs.Filled.{filled}
 use Rattle.dt_source.specs.Parse.{Says}
-use Rattle.dt_meaning.specs.Syntax.{Meaning}
+use Rattle.dt_source.specs.TreeMeaning.Syntax.{Meaning}
 use Rattle.dtman_engine.specs.CompileDtc.{AnswersFilled, IsDtcCompiled, IsDtcRefusal}
 use Rattle.dtman_engine.specs.Fault.{fault_value}
 use Rattle.dtman_engine.specs.declared.compiling_dtc.Compiled.{Compiled}

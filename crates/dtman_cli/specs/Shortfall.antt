@@ -1,8 +1,8 @@
 -- The refusal of a source that isn't whole with all that it takes in: by a source's error, or as a file can't be read.
 use Rattle.std.specs.Prelude.{Option, None, Some}
-use Rattle.dt_include.specs.declared.inclusion.Incomplete.{Incomplete}
-use Rattle.dt_include.specs.declared.inclusion.Incomplete.TheVariants as incomplete
-use Rattle.dt_include.specs.declared.site.Site.{Site}
+use Rattle.dt_text.specs.declared.include.inclusion.Incomplete.{Incomplete}
+use Rattle.dt_text.specs.declared.include.inclusion.Incomplete.TheVariants as incomplete
+use Rattle.dt_text.specs.declared.include.site.Site.{Site}
 use Rattle.dt_source.specs.declared.error.SourceErrorKind.{SourceErrorKind}
 use Rattle.dt_source.specs.declared.error.SourceErrorKind.TheVariants.{Syntax, TooDeep, TooLong}
 use Rattle.dt_source.specs.SourceError.{name_of, number_of}

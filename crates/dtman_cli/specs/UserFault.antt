@@ -1,6 +1,6 @@
 -- A fault of a whole text as the user is told it: by the line of the user's file (GNU cpp, "Preprocessor Output").
 use Rattle.std.specs.Prelude.{ℕ, List}
-use Rattle.dt_include.specs.UserLines.{place_of_line}
+use Rattle.dt_text.specs.Include.UserLines.{place_of_line}
 use Rattle.dtman_engine.specs.Fault.{FaultValue}
 use Rattle.dtman_engine.specs.declared.fault.Position.{Position}
 use Rattle.dtman_engine.specs.declared.fault.Position.TheVariants.{At, Event, Line, Nowhere, Within}

@@ -11,7 +11,7 @@ use crate::subcommand::Inspection;
 use crate::surroundings::Surroundings;
 use bus_plan::PlanError;
 use dt_blob::BlobError;
-use dt_check_table::{BadReference, CHECK_COUNT, Kind, Reference, Selection, check_at};
+use dtman_check::table::{BadReference, CHECK_COUNT, Kind, Reference, Selection, check_at};
 use dtman_check::{Answer as Checked, Asked, Learned, Shape, Source, check_blob, check_tree};
 use dtman_engine::Fault;
 use std::alloc::{AllocError, Global};

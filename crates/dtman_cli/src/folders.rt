@@ -2,7 +2,7 @@
 ghost use Rattle.std.specs.Prelude.{◌≡◌};
 
 use crate::surroundings::Surroundings;
-use dt_include::{Files, Found, Reads, search};
+use dt_text::include::{Files, Found, Reads, search};
 use dtman_engine::{MAX_BLOB_LEN, read_all};
 use std::alloc::{AllocError, Global};
 
@@ -16,7 +16,7 @@ pub struct Folders<'a, S> {
 
 impl<S: Surroundings> Files for Folders<'_, S> {
     ghost use Rattle.std.specs.Prelude.{ℕ, List};
-    ghost use Rattle.dt_include.specs.Searching.{FindsWithin};
+    ghost use Rattle.dt_text.specs.Include.Searching.{FindsWithin};
 
     // Some folders lead to it: they stand in `self`, of which this knows nothing.
     ghost finds = { λ beside name found.

@@ -4,9 +4,9 @@ use crate::detail::{Detail, told};
 use crate::diagnosing::{Given, Inputs};
 use crate::failure::Failure;
 use crate::user_places::in_user_file;
-use dt_include::Binary;
-use dt_lexeme::Language;
 use dt_source::place_at;
+use dt_text::include::Binary;
+use dt_text::lexeme::Language;
 use dtman_diagnosis::{
     Found, Recompiler, Refused, SourceText, diagnose_draft, further_faults, refused_span, text_of,
 };

@@ -5,7 +5,7 @@ use crate::failure::Failure;
 use crate::host::Host;
 use crate::performing::Answer;
 use crate::surroundings::Surroundings;
-use dt_query::QueryError;
+use dt_blob::query::QueryError;
 use dtman_blobs::{
     AskError, DiffError, Sameness, ShowError, Titles, ValueType, diff_bytes, list_text, node_text,
     set_bytes, value_line,

@@ -1,7 +1,7 @@
 //! A source in dtc's language: what it comes to with all that it takes in.
 ghost use Rattle.dtman_cli.specs.Outcome.{IsOutcome};
 
-use dt_include::{Files, Shortfall, Whole, included};
+use dt_text::include::{Files, Shortfall, Whole, included};
 use dtman_engine::{Compiled, DtcOptions, Fault};
 use std::alloc::Global;
 use std::hash::RandomState;

@@ -3,8 +3,8 @@ ghost use Rattle.std.specs.Prelude.{◌≡◌};
 ghost use Rattle.dtman_engine.specs.Fault.{fault_value};
 ghost use Rattle.dtman_cli.specs.UserFault.{in_user_file};
 
-use dt_include::{Site, user_place};
 use dt_source::Place;
+use dt_text::include::{Site, user_place};
 use dtman_diagnosis::Location;
 use dtman_engine::{Fault, Position};
 

@@ -1,1 +1,2 @@
 pub mod Ascent
+pub mod BlobTrace

@@ -3,9 +3,9 @@
 use crate::diagnosis::Subject;
 use crate::marks::{Mark, is_deleted, span_of};
 use crate::origins::Origin;
-use dt_include::Span;
-use dt_lexeme::{Kind, Language, Lexeme};
-use dt_place::named;
+use dt_text::include::Span;
+use dt_text::lexeme::{Kind, Language, Lexeme};
+use dt_text::place::named;
 
 /// Where reading stops: the lexeme there, which is behind the last one where none is, its first byte, and the kind of bracket that is
 /// open innermost.

@@ -1,8 +1,8 @@
 //! Refusals of blobs.
 
+use crate::blob_trace::{Fault, trace_blob};
 use crate::diagnosis::{Diagnosis, Location, Note, Subject, copied};
 use crate::natures::nature_of_no_blob;
-use dt_blob_trace::{Fault, trace_blob};
 use std::alloc::{AllocError, Global};
 
 /// A diagnosis of a location with nothing more to say.

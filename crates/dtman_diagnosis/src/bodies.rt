@@ -1,11 +1,11 @@
 //! Of which nodes the bodies of a source are: a light walk over its lexemes, which tells no fault and makes no value.
 
-use dt_lexeme::{Kind, Lexeme};
-use dt_place::named;
+use dt_text::lexeme::{Kind, Lexeme};
+use dt_text::place::named;
 use dt_tree::MAX_DEPTH;
+use dt_tree::written_paths::{Children, Link, Parents, at_path, path_of};
 use std::alloc::{AllocError, Global};
 use std::collections::BTreeMap;
-use trace_paths::{Children, Link, Parents, at_path, path_of};
 
 const OVERLAY: &[u8] = b"__overlay__";
 

@@ -1,6 +1,6 @@
 //! Brackets that are open.
 
-use dt_lexeme::{Kind, Lexeme};
+use dt_text::lexeme::{Kind, Lexeme};
 use std::alloc::{AllocError, Global};
 
 /// The brackets that are open behind some lexemes, by their indices, and how many of them are parentheses.

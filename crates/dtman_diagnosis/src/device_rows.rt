@@ -1,9 +1,9 @@
 //! A tree's nodes as rows, in the order in which it is read, without the reserved ones, and its devices. Node 0 is the root.
 
 use bus_plan::MAX_DEVICES;
+use dt_tree::written_paths::{Link, Parents, path_of};
 use dt_tree::{Node, Property, Tree, is_reserved_name};
 use std::alloc::{AllocError, Global};
-use trace_paths::{Link, Parents, path_of};
 
 /// A node, and the one above it.
 #[derive(Clone, Copy)]

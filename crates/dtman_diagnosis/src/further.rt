@@ -6,8 +6,8 @@ use crate::mending::{Left, mend};
 use crate::refused::Refused;
 use crate::sites::{Scanned, scan_source};
 use crate::sources::refused_span;
-use dt_include::Span;
-use dt_lexeme::{Binary, Kind, Language};
+use dt_text::include::Span;
+use dt_text::lexeme::{Binary, Kind, Language};
 use std::alloc::{AllocError, Global};
 
 /// How many faults of a text are told behind the first.

@@ -3,8 +3,8 @@
 use crate::advice::{Halt, word_len};
 use crate::diagnosis::Subject;
 use crate::natures::nature_of_no_text;
-use dt_lexeme::{Kind, Language};
-use dt_place::named;
+use dt_text::lexeme::{Kind, Language};
+use dt_text::place::named;
 use std::alloc::{AllocError, Global};
 
 /// What is meant by a word that is no value, or that is a label among cells.

@@ -5,6 +5,7 @@
 
 mod advice;
 mod alike;
+pub mod blob_trace;
 mod blobs;
 mod bodies;
 mod brackets;
@@ -26,6 +27,7 @@ mod mending;
 mod natures;
 mod nodes;
 mod origins;
+pub mod overlay_trace;
 mod overlays;
 mod phandles;
 mod refused;

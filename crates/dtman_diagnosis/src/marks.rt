@@ -7,9 +7,9 @@ use crate::escaping::character_len;
 use crate::meetings::Meeting;
 use crate::origins::Origin;
 use crate::refused::Stop;
-use dt_include::Span;
-use dt_lexeme::{Kind, Language, Lexeme};
-use dt_place::named;
+use dt_text::include::Span;
+use dt_text::lexeme::{Kind, Language, Lexeme};
+use dt_text::place::named;
 
 /// Bytes that are refused, what they are, and what is told of them.
 #[derive(Clone, Copy)]

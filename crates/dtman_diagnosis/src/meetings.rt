@@ -2,8 +2,8 @@
 
 use crate::bodies::{Bodies, Key, Open, first_mark, kind_before};
 use crate::phandles::phandle_of;
-use dt_lexeme::{Kind, Language, Lexeme};
-use dt_place::named;
+use dt_text::lexeme::{Kind, Language, Lexeme};
+use dt_text::place::named;
 use std::alloc::{AllocError, Global};
 
 /// What is told of, and what it meets, where there is that: lexemes by their indices.

@@ -9,8 +9,8 @@ use crate::origins::Origin;
 use crate::refused::{Stop, stop_at};
 use crate::sites::{Scanned, Site, scan_source, site_of, statement_end};
 use crate::sources::{is_item, kind_of, start_of};
-use dt_include::Span;
-use dt_lexeme::{Kind, Language, Lexeme};
+use dt_text::include::Span;
+use dt_text::lexeme::{Kind, Language, Lexeme};
 use std::alloc::{AllocError, Global};
 
 /// What is left of a text in which something harmless stands in the place of a fault.

@@ -1,9 +1,9 @@
 //! Where bytes of a text came from.
 
 use crate::diagnosis::{Location, copied};
-use dt_include::{Span, columns_of, line_of, user_place};
-use dt_lexeme::{Language, line_of as line_number};
-use dt_place::position_of;
+use dt_text::include::{Span, columns_of, line_of, user_place};
+use dt_text::lexeme::{Language, line_of as line_number};
+use dt_text::place::position_of;
 use std::alloc::{AllocError, Global};
 
 /// A text, the language that it is in, and the name of the file in which no line marker names another.

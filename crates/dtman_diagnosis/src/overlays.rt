@@ -3,8 +3,8 @@
 use crate::alike::{add_labels, nearest};
 use crate::blobs::{diagnose_blob, is_blob, of_file, of_location};
 use crate::diagnosis::{Diagnosis, Location, Note, Subject, copied};
+use crate::overlay_trace::{Culprit, Fault, Reason, Target, Trace, trace_overlay};
 use dt_blob::read;
-use dt_overlay_trace::{Culprit, Fault, Reason, Target, Trace, trace_overlay};
 use dt_tree::{Node, Path, Tree};
 use std::alloc::{AllocError, Global};
 

@@ -1,8 +1,8 @@
 //! The phandle that a property's lexemes give.
 
-use dt_expression::{digit_of, primary};
-use dt_lexeme::{Kind, Lexeme};
-use dt_place::named;
+use dt_text::expression::{digit_of, primary};
+use dt_text::lexeme::{Kind, Lexeme};
+use dt_text::place::named;
 
 /// The phandle that the property of this name gives, where its value is one cell or four bytes in hex.
 pub(crate) fn phandle_of(text: &[u8], lexemes: &[Lexeme], name: usize) -> Option<u32> {

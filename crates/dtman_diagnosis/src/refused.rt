@@ -1,6 +1,6 @@
 //! What was refused of a text: its number, and the byte where its fault has one.
 
-use dt_lexeme::Lexeme;
+use dt_text::lexeme::Lexeme;
 
 /// A refusal of a text: by which number, and at which of its bytes where that is known, as it is of 10 to 16 and of 20 to 28.
 #[derive(Clone, Copy, Debug, PartialEq, Eq)]

@@ -1,7 +1,7 @@
 //! Where a lexeme stands: in which statement and in which element.
 
-use dt_lexeme::{Kind, Language, Lexeme, scan_front};
 use dt_source::MAX_SOURCE_LEN;
+use dt_text::lexeme::{Kind, Language, Lexeme, scan_front};
 use std::alloc::{AllocError, Global};
 
 /// The lexemes of a text, and the byte at which none stands, where there is one.

@@ -12,10 +12,10 @@ use crate::marks::{Mark, is_deleted, mark_met, mark_stopped, span_of};
 use crate::meetings::{Meeting, Reading};
 use crate::origins::Origin;
 use crate::refused::{Refused, stop_at};
-use dt_include::Span;
-use dt_lexeme::{Kind, Language, Lexeme, scan_front};
-use dt_place::named;
 use dt_source::MAX_SOURCE_LEN;
+use dt_text::include::Span;
+use dt_text::lexeme::{Kind, Language, Lexeme, scan_front};
+use dt_text::place::named;
 use std::alloc::{AllocError, Global};
 
 /// Where a lexeme stands: the path of the node, and the name of the property there, by its lexeme.

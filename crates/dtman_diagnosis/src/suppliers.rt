@@ -6,9 +6,9 @@ use crate::diagnosis::{Diagnosis, Note, copied};
 use bus_drivers::{Culprit, Entry, Form};
 use bus_plan::MAX_DEVICES;
 use dt_blob::read;
+use dt_tree::written_paths::path_of;
 use dt_tree::{Tree, cell_in};
 use std::alloc::{AllocError, Global};
-use trace_paths::path_of;
 
 /// What a plan refuses by this number, 54 to 56, of the blob in the file of this name; and of which property, as the fault tells it.
 pub fn diagnose_plan(

@@ -1,31 +1,31 @@
 -- From what the parts answer to what compiling in dtc's language answers.
 use Rattle.std.proofs.Common.{◌≡◌, ◌⊎◌, inl, inr, ℕ, true, List, Option, Some, None, Result, Ok, Err, IfOk, IfErr, refl, sym, ap, ◌∙◌, subst}
 use Rattle.std.specs.List.{filter, list_all}
-use Rattle.dt_lexeme.specs.declared.language.Language.TheVariants.{Dtc}
-use Rattle.dt_lexeme.specs.declared.lexeme.ReadError.{ReadError}
-use Rattle.dt_lexeme.specs.declared.lexeme.ReadError.TheVariants as errors
-use Rattle.dt_lexeme.specs.declared.lexeme.Refusal.{Refusal}
+use Rattle.dt_text.specs.declared.lexeme.language.Language.TheVariants.{Dtc}
+use Rattle.dt_text.specs.declared.lexeme.lexeme.ReadError.{ReadError}
+use Rattle.dt_text.specs.declared.lexeme.lexeme.ReadError.TheVariants as errors
+use Rattle.dt_text.specs.declared.lexeme.lexeme.Refusal.{Refusal}
 use Rattle.dt_tree.specs.NodeData.{NodeData}
 use Rattle.dt_tree.specs.PathMap.{path_map, tree_map}
 use Rattle.dt_tree.specs.Steps.{then_do}
 use Rattle.dt_tree.specs.TreeData.{TreeData, IsTree, is_reserve, tree_data}
-use Rattle.dt_tree_builder.specs.Sizes.{size_in}
-use Rattle.dt_tree_builder.proofs.Walks.{filter-all}
-use Rattle.dt_lexeme.specs.declared.binary.Binary.{Binary}
+use Rattle.dt_live.specs.Builder.Sizes.{size_in}
+use Rattle.dt_live.proofs.BuilderLemmas.Walks.{filter-all}
+use Rattle.dt_text.specs.declared.lexeme.binary.Binary.{Binary}
 use Rattle.dt_source.specs.declared.error.SourceErrorKind.TheVariants.{NoMemory}
 use Rattle.dt_source.specs.Filled.{filled}
 use Rattle.dt_source.specs.Parse.{Says}
 use Rattle.dt_source.specs.Reading.Several.{Fails}
-use Rattle.dt_meaning.specs.Syntax.{Meaning}
-use Rattle.dt_meaning.specs.BootProcessor.{boot_processor}
-use Rattle.dt_meaning.specs.DtcEdits.{DtcTree}
-use Rattle.dt_meaning.specs.DtcResolved.{dtc_resolved, resolved_tree}
-use Rattle.dt_meaning.specs.DtcStatements.{dtc_edited}
-use Rattle.dt_meaning.specs.MapOf.{tree_map_of}
-use Rattle.dt_meaning.specs.Resolved.{Resolved}
-use Rattle.dt_meaning.specs.Statements as meaning
-use Rattle.dt_resolve.specs.declared.error.BuildError.{BuildError}
-use Rattle.dt_resolve.proofs.Faults.{fault-then}
+use Rattle.dt_source.specs.TreeMeaning.Syntax.{Meaning}
+use Rattle.dt_source.specs.TreeMeaning.BootProcessor.{boot_processor}
+use Rattle.dt_source.specs.TreeMeaning.DtcEdits.{DtcTree}
+use Rattle.dt_source.specs.TreeMeaning.DtcResolved.{dtc_resolved, resolved_tree}
+use Rattle.dt_source.specs.TreeMeaning.DtcStatements.{dtc_edited}
+use Rattle.dt_source.specs.TreeMeaning.MapOf.{tree_map_of}
+use Rattle.dt_source.specs.TreeMeaning.Resolved.{Resolved}
+use Rattle.dt_source.specs.TreeMeaning.Statements as meaning
+use Rattle.dt_build.specs.declared.resolve.error.BuildError.{BuildError}
+use Rattle.dt_build.proofs.ResolveLemmas.Faults.{fault-then}
 use Rattle.dt_build.specs.BuiltByDtc.{DtcRefuses, IsDtcLonger, IsDtcTreeOf, booting}
 use Rattle.dtman_engine.specs.declared.compiling_dtc.Compiled.{Compiled}
 use Rattle.dtman_engine.specs.declared.compiling_dtc.DtcOptions.{DtcOptions}

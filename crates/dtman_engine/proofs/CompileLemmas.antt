@@ -6,11 +6,11 @@ use Rattle.dt_tree.specs.Sound.{IsSound}
 use Rattle.dt_tree.specs.Steps.{then_do}
 use Rattle.dt_tree.specs.TreeData.{TreeData, IsTree}
 use Rattle.dt_tree.proofs.MapLaws.{same_tree}
-use Rattle.dt_tree_builder.specs.Sizes.{size_below, size_in}
-use Rattle.dt_meaning.specs.Syntax.{Meaning}
-use Rattle.dt_meaning.specs.MapOf.{tree_map_of}
-use Rattle.dt_meaning.specs.Resolved.{Resolved, resolved}
-use Rattle.dt_meaning.specs.Statements as meaning
+use Rattle.dt_live.specs.Builder.Sizes.{size_below, size_in}
+use Rattle.dt_source.specs.TreeMeaning.Syntax.{Meaning}
+use Rattle.dt_source.specs.TreeMeaning.MapOf.{tree_map_of}
+use Rattle.dt_source.specs.TreeMeaning.Resolved.{Resolved, resolved}
+use Rattle.dt_source.specs.TreeMeaning.Statements as meaning
 use Rattle.dt_source.specs.declared.error.SourceErrorKind.{SourceErrorKind}
 use Rattle.dt_blob.specs.declared.error.BlobError.{BlobError}
 use Rattle.dt_blob.specs.Blob.{blob_of}

@@ -1,6 +1,7 @@
-pub mod CompileLemmas
+pub mod CanonicalLemmas
 mod ChannelLemmas
 mod CompileDtcLemmas
+pub mod CompileLemmas
 mod CopyLemmas
 mod DumpLemmas
 mod ExplainLemmas

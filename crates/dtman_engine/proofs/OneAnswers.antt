@@ -1,11 +1,11 @@
 -- What an input means is one, and that has one answer.
 use Rattle.std.proofs.Common.{◌≡◌, inl, inr, ℕ, Bool, List, ap, ◌∙◌, subst}
-use Rattle.dt_lexeme.specs.declared.language.Language.TheVariants.{Profile}
+use Rattle.dt_text.specs.declared.lexeme.language.Language.TheVariants.{Profile}
 use Rattle.dt_tree.specs.TreeData.{TreeData}
 use Rattle.dt_source.specs.declared.error.SourceErrorKind.{SourceErrorKind}
 use Rattle.dt_source.specs.Laws.{OnlyMemoryRefusesWhatIsSaid}
 use Rattle.dt_source.specs.Parse.{IsShort, Says}
-use Rattle.dt_meaning.specs.Syntax.{Meaning}
+use Rattle.dt_source.specs.TreeMeaning.Syntax.{Meaning}
 use Rattle.dt_blob.specs.Holds.{Holds}
 use Rattle.dtman_engine.specs.Compile.{CannotBuild, IsBlobOf, IsCompiled, IsCompileRefusal, meant_by}
 use Rattle.dtman_engine.specs.Dump.{CannotPrint, IsDump, IsRefusal}

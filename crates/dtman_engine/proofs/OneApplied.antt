@@ -3,10 +3,10 @@ use Rattle.std.proofs.Common.{◌≡◌, ◌⊎◌, ◌<◌, ◌≤◌, inl, inr
 use Rattle.dt_tree.specs.PathMap.{TreeMap}
 use Rattle.dt_tree.specs.TreeData.{TreeData}
 use Rattle.dt_tree.proofs.MapLaws.{same_tree}
-use Rattle.dt_meaning.specs.MapOf.{map_of}
-use Rattle.dt_meaning.specs.Resolved.{Resolved}
+use Rattle.dt_source.specs.TreeMeaning.MapOf.{map_of}
+use Rattle.dt_source.specs.TreeMeaning.Resolved.{Resolved}
 use Rattle.dt_overlay.specs.Applied.{applied_lists}
-use Rattle.dt_fixup.specs.declared.error.OverlayError.TheVariants as overlays
+use Rattle.dt_overlay.specs.declared.fixup.error.OverlayError.TheVariants as overlays
 use Rattle.dt_blob.specs.Blob.{blob_of}
 use Rattle.dt_blob.specs.SourceText.{text_of}
 use Rattle.dtman_engine.specs.Dump.{CannotPrint}

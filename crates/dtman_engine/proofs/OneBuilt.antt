@@ -3,7 +3,7 @@ use Rattle.std.proofs.Common.{◌≡◌, ◌⊎◌, ◌<◌, ◌≤◌, inl, inr
 use Rattle.dt_tree.specs.PathMap.{TreeMap, tree_map}
 use Rattle.dt_tree.specs.TreeData.{TreeData, IsTree}
 use Rattle.dt_tree.proofs.MapLaws.{same_tree}
-use Rattle.dt_resolve.specs.declared.error.BuildErrorKind.TheVariants as builds
+use Rattle.dt_build.specs.declared.resolve.error.BuildErrorKind.TheVariants as builds
 use Rattle.dt_blob.specs.Blob.{blob_of}
 use Rattle.dtman_engine.specs.Fault.{FaultValue, no_memory}
 use Rattle.dtman_engine.specs.Meant.{CannotBuild, HasLongBlob, IsBlobOf, MeansNone, Meant}

@@ -1,13 +1,13 @@
 -- What a source in dtc's language means with its files is one, and that has one answer.
 use Rattle.std.proofs.Common.{◌≡◌, inl, inr, ℕ, List, Result, Ok, Err, ap, ◌∙◌, subst}
-use Rattle.dt_lexeme.specs.declared.language.Language.TheVariants.{Dtc}
-use Rattle.dt_lexeme.specs.declared.lexeme.Refusal.{Refusal}
-use Rattle.dt_lexeme.specs.declared.binary.Binary.{Binary}
+use Rattle.dt_text.specs.declared.lexeme.language.Language.TheVariants.{Dtc}
+use Rattle.dt_text.specs.declared.lexeme.lexeme.Refusal.{Refusal}
+use Rattle.dt_text.specs.declared.lexeme.binary.Binary.{Binary}
 use Rattle.dt_source.specs.declared.error.SourceErrorKind.{SourceErrorKind}
 use Rattle.dt_source.specs.Filled.{filled}
 use Rattle.dt_source.specs.Laws.{OnlyMemoryRefusesWhatIsSaid}
 use Rattle.dt_source.specs.Parse.{Says}
-use Rattle.dt_meaning.specs.Syntax.{Meaning}
+use Rattle.dt_source.specs.TreeMeaning.Syntax.{Meaning}
 use Rattle.dtman_engine.specs.declared.compiling_dtc.DtcOptions.{DtcOptions}
 use Rattle.dtman_engine.specs.CompileDtc.{IsDtcCompiled, IsDtcRefusal, LacksFile, SaysWith, dtc_meant}
 use Rattle.dtman_engine.specs.Fault.{FaultValue}

@@ -1,13 +1,13 @@
 -- A meaning has one error that tells its fault, but for want of memory.
 use Rattle.std.proofs.Common.{◌≡◌, ◌⊎◌, inl, inr, Option, Some, None, Result, Ok, Err, refl, sym, ap, ◌∙◌}
-use Rattle.dt_meaning.specs.Statements as meaning
-use Rattle.dt_resolve.specs.declared.error.BuildErrorKind.{BuildErrorKind}
-use Rattle.dt_resolve.specs.declared.error.BuildErrorKind.TheVariants as builds
-use Rattle.dt_resolve.specs.BuildFault as build
-use Rattle.dt_overlay_meaning.specs.Fault as applied
-use Rattle.dt_fixup.specs.declared.error.OverlayError.{OverlayError}
-use Rattle.dt_fixup.specs.declared.error.OverlayError.TheVariants as overlays
-use Rattle.dt_fixup.specs.OverlayFault as overlay
+use Rattle.dt_source.specs.TreeMeaning.Statements as meaning
+use Rattle.dt_build.specs.declared.resolve.error.BuildErrorKind.{BuildErrorKind}
+use Rattle.dt_build.specs.declared.resolve.error.BuildErrorKind.TheVariants as builds
+use Rattle.dt_build.specs.Resolve.BuildFault as build
+use Rattle.dt_source.specs.OverlayMeaning.Fault as applied
+use Rattle.dt_overlay.specs.declared.fixup.error.OverlayError.{OverlayError}
+use Rattle.dt_overlay.specs.declared.fixup.error.OverlayError.TheVariants as overlays
+use Rattle.dt_overlay.specs.Fixup.OverlayFault as overlay
 
 pub same-lists : {A B : Type 0} (r : Result A B) (x y : A) → r ≡ Ok x → r ≡ Ok y → x ≡ y
 same-lists r x y one other = cc

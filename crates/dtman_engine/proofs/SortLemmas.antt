@@ -1,7 +1,7 @@
 -- From what the parts answer to what a sorted blob is.
 use Rattle.std.proofs.Common.{◌≡◌, ◌≤◌, inl, inr, ℕ, List, length, Result, Ok, Err, IfOk, IfErr, MatchResult}
 use Rattle.dt_tree.specs.TreeData.{TreeData, IsTree}
-use Rattle.dt_sort.specs.Sorted.{IsSortedTree}
+use Rattle.dt_tree.specs.Sort.Sorted.{IsSortedTree}
 use Rattle.dt_blob.specs.Blob.{blob_of}
 use Rattle.dt_blob.specs.Holds.{Holds}
 use Rattle.dtman_engine.specs.declared.fault.Fault.{Fault}

@@ -3,7 +3,7 @@ use Rattle.std.proofs.Common.{◌≡◌, ℕ, ◌+◌, ◌≤◌, List, [], ◌�
 use Rattle.dt_tree.specs.declared.property.Property.{Property}
 use Rattle.dt_tree.specs.NodeData.{NodeData, Siblings, none, more}
 use Rattle.dt_tree.specs.TreeData.{TreeData}
-use Rattle.dt_tree_builder.specs.Sizes.{size_among, size_below, size_of}
+use Rattle.dt_live.specs.Builder.Sizes.{size_among, size_below, size_of}
 use Rattle.dt_blob.specs.BigEndian.{word}
 use Rattle.dt_blob.specs.Blob.{blob_of, header, padding, reservations, structure_from, strings_after, token_bytes, names_in}
 use Rattle.dt_blob.specs.Strings.{offset_in, with_names}

@@ -1,11 +1,11 @@
 -- What `compile_bytes` answers: the blob of the tree that the source in a text means, or why there is none.
 use Rattle.std.specs.Prelude.{◌⊎◌, ℕ, Bool, List, Ok}
-use Rattle.dt_lexeme.specs.declared.language.Language.TheVariants.{Profile}
+use Rattle.dt_text.specs.declared.lexeme.language.Language.TheVariants.{Profile}
 use Rattle.dt_tree.specs.Steps.{then_do}
 use Rattle.dt_source.specs.Parse as parse
-use Rattle.dt_meaning.specs.Syntax.{Meaning}
-use Rattle.dt_meaning.specs.MapOf.{tree_map_of}
-use Rattle.dt_meaning.specs.Resolved.{resolved}
+use Rattle.dt_source.specs.TreeMeaning.Syntax.{Meaning}
+use Rattle.dt_source.specs.TreeMeaning.MapOf.{tree_map_of}
+use Rattle.dt_source.specs.TreeMeaning.Resolved.{resolved}
 use Rattle.dtman_engine.specs.Fault.{Answer, FaultValue}
 use Rattle.dtman_engine.specs.Meant as meant
 

@@ -1,19 +1,19 @@
 -- What `compile_dtc` answers: the blob of the tree that the source in a text in dtc's language means, with the files that its
 -- `/incbin/` name, or why there is none (Devicetree Specification v0.4, chapters 5 and 6; where it is silent, dtc 1.6.1).
 use Rattle.std.specs.Prelude.{◌≡◌, ◌⊎◌, ℕ, List, Option, Some, None, Result, Ok, Err, IsErrAnd, MatchResult}
-use Rattle.dt_lexeme.specs.declared.language.Language.TheVariants.{Dtc}
-use Rattle.dt_lexeme.specs.declared.lexeme.Refusal.{Refusal}
+use Rattle.dt_text.specs.declared.lexeme.language.Language.TheVariants.{Dtc}
+use Rattle.dt_text.specs.declared.lexeme.lexeme.Refusal.{Refusal}
 use Rattle.dt_source.specs.Places.{place_at}
 use Rattle.dt_tree.specs.Steps.{then_do}
-use Rattle.dt_lexeme.specs.declared.binary.Binary.{Binary}
+use Rattle.dt_text.specs.declared.lexeme.binary.Binary.{Binary}
 use Rattle.dt_source.specs.declared.error.SourceErrorKind.TheVariants.{Syntax}
 use Rattle.dt_source.specs.Filled.{filled}
 use Rattle.dt_source.specs.Parse.{Refuses, Says}
-use Rattle.dt_meaning.specs.Syntax.{Meaning}
-use Rattle.dt_meaning.specs.BootProcessor.{dtc_boot_processor}
-use Rattle.dt_meaning.specs.DtcResolved.{dtc_resolved}
-use Rattle.dt_meaning.specs.MapOf.{tree_map_of}
-use Rattle.dt_meaning.specs.Statements.{Fault}
+use Rattle.dt_source.specs.TreeMeaning.Syntax.{Meaning}
+use Rattle.dt_source.specs.TreeMeaning.BootProcessor.{dtc_boot_processor}
+use Rattle.dt_source.specs.TreeMeaning.DtcResolved.{dtc_resolved}
+use Rattle.dt_source.specs.TreeMeaning.MapOf.{tree_map_of}
+use Rattle.dt_source.specs.TreeMeaning.Statements.{Fault}
 use Rattle.dt_build.specs.BuiltByDtc.{booting}
 use Rattle.dtman_engine.specs.declared.compiling_dtc.Compiled.{Compiled}
 use Rattle.dtman_engine.specs.declared.compiling_dtc.DtcOptions.{DtcOptions}

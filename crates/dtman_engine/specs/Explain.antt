@@ -3,9 +3,9 @@ use Rattle.std.specs.Prelude.{ℕ, List, [], ◌∷◌, ◌==◌, if◌then◌el
 use Rattle.std.specs.List.{concat}
 use Rattle.std.specs.Fmt.{decimal}
 use Rattle.dt_source.specs.declared.error.SourceErrorKind.TheVariants as source
-use Rattle.dt_resolve.specs.declared.error.BuildErrorKind.TheVariants as build
+use Rattle.dt_build.specs.declared.resolve.error.BuildErrorKind.TheVariants as build
 use Rattle.dt_blob.specs.declared.error.BlobError.TheVariants as blob
-use Rattle.dt_fixup.specs.declared.error.OverlayError.TheVariants as overlay
+use Rattle.dt_overlay.specs.declared.fixup.error.OverlayError.TheVariants as overlay
 use Rattle.bus_plan.specs.declared.error.PlanError.TheVariants as text
 use Rattle.bus_core.specs.declared.refusal.Refusal.TheVariants as event
 use Rattle.bus_manager.specs.declared.run_error.RunError.TheVariants as run

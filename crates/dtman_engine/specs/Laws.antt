@@ -1,16 +1,16 @@
 -- What the engines keep together, over all that their clauses let them answer.
 use Rattle.std.specs.Prelude.{◌≡◌, ◌<◌, ◌≤◌, ◌⊎◌, ℕ, Bool, false, List, length}
-use Rattle.dt_lexeme.specs.declared.language.Language.TheVariants.{Profile}
+use Rattle.dt_text.specs.declared.lexeme.language.Language.TheVariants.{Profile}
 use Rattle.dt_tree.specs.TreeData.{TreeData, IsTree}
-use Rattle.dt_lexeme.specs.declared.binary.Binary.{Binary}
+use Rattle.dt_text.specs.declared.lexeme.binary.Binary.{Binary}
 use Rattle.dt_source.specs.declared.error.SourceErrorKind.TheVariants.{TooLong}
 use Rattle.dt_source.specs.Parse.{Says}
-use Rattle.dt_meaning.specs.Syntax.{Meaning}
+use Rattle.dt_source.specs.TreeMeaning.Syntax.{Meaning}
 use Rattle.dt_blob.specs.Blob.{blob_of}
 use Rattle.dt_blob.specs.Holds.{Holds}
 use Rattle.dt_blob.specs.SourceText.{text_of}
-use Rattle.dt_canonical.specs.Bytes.{HasBytes}
-use Rattle.dt_canonical.specs.Conditions.{IsSourceTree}
+use Rattle.dtman_engine.specs.Canonical.Bytes.{HasBytes}
+use Rattle.dtman_engine.specs.Canonical.Conditions.{IsSourceTree}
 use Rattle.dtman_engine.specs.Compile.{IsCompiled, IsCompileRefusal}
 use Rattle.dtman_engine.specs.CompileDtc.{IsDtcCompiled, IsDtcRefusal, SaysWith}
 use Rattle.dtman_engine.specs.Dump.{CannotPrint, IsDump, IsRefusal}

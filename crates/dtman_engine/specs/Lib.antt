@@ -1,4 +1,5 @@
 pub mod BlobFaults
+pub mod Canonical
 pub mod Compile
 pub mod CompileDtc
 pub mod Copy

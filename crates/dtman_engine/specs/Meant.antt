@@ -2,12 +2,12 @@
 use Rattle.std.specs.Prelude.{◌≡◌, ◌≤◌, ◌<◌, ◌⊎◌, ℕ, List, length, Result, Ok, MatchResult}
 use Rattle.dt_tree.specs.PathMap.{TreeMap, tree_map}
 use Rattle.dt_tree.specs.TreeData.{TreeData, IsTree}
-use Rattle.dt_meaning.specs.Statements.{Fault}
-use Rattle.dt_meaning.specs.Syntax.{Meaning}
+use Rattle.dt_source.specs.TreeMeaning.Statements.{Fault}
+use Rattle.dt_source.specs.TreeMeaning.Syntax.{Meaning}
 use Rattle.dt_source.specs.declared.place.Place.{Place}
 use Rattle.dt_source.specs.declared.error.SourceErrorKind.{SourceErrorKind}
-use Rattle.dt_resolve.specs.declared.error.BuildErrorKind.{BuildErrorKind}
-use Rattle.dt_resolve.specs.BuildFault.{IsFault}
+use Rattle.dt_build.specs.declared.resolve.error.BuildErrorKind.{BuildErrorKind}
+use Rattle.dt_build.specs.Resolve.BuildFault.{IsFault}
 use Rattle.dt_blob.specs.declared.error.BlobError.TheVariants.{TooLarge}
 use Rattle.dt_blob.specs.Blob.{blob_of}
 use Rattle.dtman_engine.specs.Fault.{Answer, FaultValue, fault_value, no_memory}

@@ -3,12 +3,12 @@
 use Rattle.std.specs.Prelude.{◌≡◌, ◌≤◌, ◌<◌, ◌⊎◌, ℕ, List, length, Some, Ok, IsErrAnd, MatchResult}
 use Rattle.dt_tree.specs.PathMap.{tree_map}
 use Rattle.dt_tree.specs.TreeData.{TreeData, IsTree}
-use Rattle.dt_meaning.specs.MapOf.{map_of}
-use Rattle.dt_meaning.specs.Resolved.{Resolved}
-use Rattle.dt_tree_builder.specs.Lists.{lists_of}
-use Rattle.dt_overlay_meaning.specs.Applied.{overlay_result}
-use Rattle.dt_fixup.specs.declared.error.OverlayError.{OverlayError}
-use Rattle.dt_fixup.specs.OverlayFault.{IsFault}
+use Rattle.dt_source.specs.TreeMeaning.MapOf.{map_of}
+use Rattle.dt_source.specs.TreeMeaning.Resolved.{Resolved}
+use Rattle.dt_live.specs.Builder.Lists.{lists_of}
+use Rattle.dt_source.specs.OverlayMeaning.Applied.{overlay_result}
+use Rattle.dt_overlay.specs.declared.fixup.error.OverlayError.{OverlayError}
+use Rattle.dt_overlay.specs.Fixup.OverlayFault.{IsFault}
 use Rattle.dt_overlay.specs.Applied.{IsApplied}
 use Rattle.dt_blob.specs.declared.error.BlobError.{BlobError}
 use Rattle.dt_blob.specs.declared.error.BlobError.TheVariants.{TooLarge}

@@ -1,6 +1,6 @@
 -- The faults of an overlay on its base.
-use Rattle.dt_fixup.specs.declared.error.OverlayError.{OverlayError}
-use Rattle.dt_fixup.specs.OverlayError.{number_of, name_of}
+use Rattle.dt_overlay.specs.declared.fixup.error.OverlayError.{OverlayError}
+use Rattle.dt_overlay.specs.Fixup.OverlayError.{number_of, name_of}
 use Rattle.dtman_engine.specs.Fault.{FaultValue}
 use Rattle.dtman_engine.specs.declared.fault.Position.TheVariants.{Nowhere}
 

@@ -1,7 +1,7 @@
 -- What `sort_bytes` answers: the blob of the tree that the bytes hold in order of its names (dtc's manual, `-s`), or why there is none.
 use Rattle.std.specs.Prelude.{◌≡◌, ◌≤◌, ◌<◌, ◌⊎◌, List, ℕ, length, MatchResult}
 use Rattle.dt_tree.specs.TreeData.{TreeData, IsTree}
-use Rattle.dt_sort.specs.Sorted.{IsSortedTree}
+use Rattle.dt_tree.specs.Sort.Sorted.{IsSortedTree}
 use Rattle.dt_blob.specs.declared.error.BlobError.TheVariants.{TooLarge}
 use Rattle.dt_blob.specs.Blob.{blob_of}
 use Rattle.dt_blob.specs.Holds.{Holds}

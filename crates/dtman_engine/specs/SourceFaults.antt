@@ -4,9 +4,9 @@ use Rattle.dt_source.specs.declared.place.Place.{Place}
 use Rattle.dt_source.specs.declared.error.SourceErrorKind.{SourceErrorKind}
 use Rattle.dt_source.specs.declared.error.SourceErrorKind.TheVariants.{NoMemory}
 use Rattle.dt_source.specs.SourceError as source
-use Rattle.dt_resolve.specs.declared.error.BuildError.{BuildError}
-use Rattle.dt_resolve.specs.declared.error.BuildErrorKind.{BuildErrorKind}
-use Rattle.dt_resolve.specs.BuildError as build
+use Rattle.dt_build.specs.declared.resolve.error.BuildError.{BuildError}
+use Rattle.dt_build.specs.declared.resolve.error.BuildErrorKind.{BuildErrorKind}
+use Rattle.dt_build.specs.Resolve.BuildError as build
 use Rattle.dt_source.specs.Places.{place_at}
 use Rattle.dtman_engine.specs.Fault.{FaultValue}
 use Rattle.dtman_engine.specs.declared.fault.Position.{Position}

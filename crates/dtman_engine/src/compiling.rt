@@ -1,9 +1,9 @@
 //! The blob of a source, from bytes to bytes.
 ghost use Rattle.std.specs.Prelude.{IfOk, IfErr};
-ghost use Rattle.dt_lexeme.specs.declared.language.Language.TheVariants.{Profile};
+ghost use Rattle.dt_text.specs.declared.lexeme.language.Language.TheVariants.{Profile};
 ghost use Rattle.dt_source.specs.Parse.{Says};
 ghost use Rattle.dt_source.specs.Meaning.{meaning_of};
-ghost use Rattle.dt_meaning.specs.Syntax.{Meaning};
+ghost use Rattle.dt_source.specs.TreeMeaning.Syntax.{Meaning};
 ghost use Rattle.dtman_engine.specs.Compile.{Builds, IsCompileRefusal, IsCompiled};
 ghost use Rattle.dtman_engine.specs.Fault.{fault_value};
 ghost use Rattle.dtman_engine.specs.Limits.{IsShort};
@@ -13,8 +13,8 @@ use crate::fault::Fault;
 use crate::limits::MAX_BLOB_LEN;
 use dt_blob::{BlobError, write};
 use dt_build::build_within;
-use dt_lexeme::Language;
 use dt_source::{Source, one_source, parse};
+use dt_text::lexeme::Language;
 use dt_tree::Tree;
 use std::alloc::Global;
 use std::hash::RandomState;

@@ -1,11 +1,11 @@
 //! The blob of a source in dtc's language, from bytes to bytes.
 ghost use Rattle.std.specs.Prelude.{◌≡◌, IfOk, IfErr};
-ghost use Rattle.dt_lexeme.specs.declared.language.Language.TheVariants.{Dtc};
+ghost use Rattle.dt_text.specs.declared.lexeme.language.Language.TheVariants.{Dtc};
 ghost use Rattle.dt_tree.specs.PathMap.{tree_map};
 ghost use Rattle.dt_source.specs.Filled.{filled};
 ghost use Rattle.dt_source.specs.Meaning.{meaning_of};
 ghost use Rattle.dt_source.specs.Parse.{Says};
-ghost use Rattle.dt_meaning.specs.Syntax.{Meaning};
+ghost use Rattle.dt_source.specs.TreeMeaning.Syntax.{Meaning};
 ghost use Rattle.dt_blob.specs.Blob.{blob_of};
 ghost use Rattle.dtman_engine.specs.CompileDtc.{AnswersFilled, BuildsDtc, IsDtcCompiled, IsDtcRefusal, dtc_meant};
 ghost use Rattle.dtman_engine.specs.Fault.{fault_value};
@@ -17,9 +17,9 @@ use crate::fault::Fault;
 use crate::limits::MAX_BLOB_LEN;
 use dt_blob::BlobError;
 use dt_build::{Built, build_dtc_within};
-use dt_lexeme::{Binary, Language, ReadError};
-use dt_making::Places;
+use dt_live::making::Places;
 use dt_source::{Source, SourceError, SourceErrorKind, one_source, parse, place_at};
+use dt_text::lexeme::{Binary, Language, ReadError};
 use dt_tree::Tree;
 use std::alloc::Global;
 use std::hash::RandomState;

@@ -3,9 +3,9 @@ ghost use Rattle.std.specs.Prelude.{◌≡◌};
 ghost use Rattle.dtman_engine.specs.Laws.{BlobsComeBack, OneAnswer};
 ghost use Rattle.dtman_engine.specs.Limits.{blob_limit, source_limit, text_limit};
 
+use crate::canonical::canonical_source;
 use crate::limits::{MAX_BLOB_LEN, MAX_SOURCE_LEN, MAX_TEXT_LEN};
 use dt_blob::{blob_holds, one_tree};
-use dt_canonical::canonical_source;
 use dt_source::one_source;
 
 /// The blob of a tree with canonical source is what `compile_bytes` makes of what `dump_bytes` prints of it, unless memory

@@ -1,6 +1,7 @@
 //! The engines: each from the bytes of files to the bytes of an answer, or to the first fault.
 #![tactic(auto)]
 
+pub mod canonical;
 mod channel;
 mod compiling;
 mod compiling_dtc;

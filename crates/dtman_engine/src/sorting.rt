@@ -11,8 +11,8 @@ ghost use Rattle.dtman_engine.specs.Sort.{IsSort, IsSortRefusal, SortsTree};
 use crate::compiling::tree_blob;
 use crate::fault::Fault;
 use dt_blob::read;
-use dt_sort::sort;
 use dt_tree::Tree;
+use dt_tree::sort::sort;
 use std::alloc::Global;
 use std::hash::RandomState;
 

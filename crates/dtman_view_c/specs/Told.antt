@@ -5,10 +5,10 @@ use Rattle.dt_blob.specs.declared.error.BlobError.{BlobError}
 use Rattle.dt_patch.specs.declared.error.PatchError.{PatchError}
 use Rattle.dt_patch.specs.declared.error.PatchError.TheVariants.{BadName, Blob, EndPair, Exists, NoNode, NoProperty, NoReservation, OtherLength, Root, Short, TooDeep, Unordered}
 use Rattle.dt_patch.specs.declared.error.PatchError.TheVariants as patch
-use Rattle.dt_view.specs.declared.error.ViewError.{ViewError}
-use Rattle.dt_view.specs.declared.error.ViewError.TheVariants.{BadOffset, BadPath}
-use Rattle.dt_view.specs.declared.nodes.NodeOffset.{NodeOffset}
-use Rattle.dt_view.specs.declared.properties.PropertyOffset.{PropertyOffset}
+use Rattle.dt_patch.specs.declared.view.error.ViewError.{ViewError}
+use Rattle.dt_patch.specs.declared.view.error.ViewError.TheVariants.{BadOffset, BadPath}
+use Rattle.dt_patch.specs.declared.view.nodes.NodeOffset.{NodeOffset}
+use Rattle.dt_patch.specs.declared.view.properties.PropertyOffset.{PropertyOffset}
 use Rattle.dtman_view_c.specs.declared.told.ViewTold.{ViewTold}
 
 abbrev pub done : ℕ → ViewTold

@@ -4,15 +4,15 @@ ghost use Rattle.dt_tree.specs.NodeData.{NodeData};
 ghost use Rattle.dt_tree.specs.Path.{is_path, path_names};
 ghost use Rattle.dt_tree.specs.PathMap.{child_named, node_at};
 ghost use Rattle.dt_tree.specs.TreeData.{TreeData};
-ghost use Rattle.dt_view.specs.Order.{StandsIn, from_first, has_phandle, in_order, is_compatible, TellsNext};
-ghost use Rattle.dt_view.specs.Aliases.{TellsAlias, alias_in};
-ghost use Rattle.dt_view.specs.Places.{TellsPlace};
-ghost use Rattle.dt_view.specs.Shows.{Views};
-ghost use Rattle.dt_view.specs.Standing.{HasNoNode, StandsAt};
+ghost use Rattle.dt_patch.specs.View.Order.{StandsIn, from_first, has_phandle, in_order, is_compatible, TellsNext};
+ghost use Rattle.dt_patch.specs.View.Aliases.{TellsAlias, alias_in};
+ghost use Rattle.dt_patch.specs.View.Places.{TellsPlace};
+ghost use Rattle.dt_patch.specs.View.Shows.{Views};
+ghost use Rattle.dt_patch.specs.View.Standing.{HasNoNode, StandsAt};
 ghost use Rattle.dtman_view_c.specs.Told.{TellsNode, bad_offset, bad_path};
 
 use crate::told::{ViewTold, node_told};
-use dt_view::{NodeOffset, View};
+use dt_patch::view::{NodeOffset, View};
 
 /// The child of this name.
 #[unsafe(no_mangle)]

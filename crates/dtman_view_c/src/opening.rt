@@ -2,11 +2,11 @@
 ghost use Rattle.std.specs.Prelude.{◌≡◌, ◌⊎◌};
 ghost use Rattle.dt_blob.specs.declared.error.BlobError.{BlobError};
 ghost use Rattle.dt_tree.specs.TreeData.{TreeData};
-ghost use Rattle.dt_view.specs.Shows.{Shows, Views};
+ghost use Rattle.dt_patch.specs.View.Shows.{Shows, Views};
 ghost use Rattle.dtman_view_c.specs.Told.{done, refused};
 
 use crate::told::{ViewTold, done, refused};
-use dt_view::View;
+use dt_patch::view::View;
 
 /// The view of a blob, once its tests are passed.
 #[unsafe(no_mangle)]

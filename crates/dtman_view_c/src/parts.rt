@@ -4,13 +4,13 @@ ghost use Rattle.dt_tree.specs.NodeData.{NodeData};
 ghost use Rattle.dt_tree.specs.PathMap.{value_of};
 ghost use Rattle.dt_tree.specs.TreeData.{TreeData};
 ghost use Rattle.dt_tree.specs.declared.property.Property.{Property};
-ghost use Rattle.dt_view.specs.Shows.{Views};
-ghost use Rattle.dt_view.specs.Standing.{PropertiesFrom, StandsAt};
+ghost use Rattle.dt_patch.specs.View.Shows.{Views};
+ghost use Rattle.dt_patch.specs.View.Standing.{PropertiesFrom, StandsAt};
 ghost use Rattle.dtman_view_c.specs.Parts.{IsPart, IsPair};
 ghost use Rattle.dtman_view_c.specs.Told.{done};
 
 use crate::told::{ViewTold, done, failed, nothing};
-use dt_view::{NodeOffset, PropertyOffset, View, ViewProperty};
+use dt_patch::view::{NodeOffset, PropertyOffset, View, ViewProperty};
 
 /// Bytes of the caller's blob.
 #[repr(C)]

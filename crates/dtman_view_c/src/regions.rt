@@ -1,13 +1,13 @@
 //! Addresses and sizes in `reg`.
 ghost use Rattle.std.specs.Prelude.{◌≡◌};
 ghost use Rattle.dt_tree.specs.NodeData.{NodeData};
-ghost use Rattle.dt_view.specs.Regions.{reg_cells, region_of};
-ghost use Rattle.dt_view.specs.Standing.{HasNoNode, StandsAt};
+ghost use Rattle.dt_patch.specs.View.Regions.{reg_cells, region_of};
+ghost use Rattle.dt_patch.specs.View.Standing.{HasNoNode, StandsAt};
 ghost use Rattle.dtman_view_c.specs.Parts.{IsGiven};
 ghost use Rattle.dtman_view_c.specs.Told.{bad_offset, done};
 
 use crate::told::{ViewTold, done, failed, nothing};
-use dt_view::{NodeOffset, RegCells, Region, View};
+use dt_patch::view::{NodeOffset, RegCells, Region, View};
 
 /// How many cells the `reg` of a node's children has for an address and for a size.
 #[unsafe(no_mangle)]

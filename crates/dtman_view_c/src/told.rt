@@ -4,7 +4,7 @@ ghost use Rattle.dtman_view_c.specs.Told.{done, nothing, node_told, property_tol
 
 use dt_blob::BlobError;
 use dt_patch::PatchError;
-use dt_view::{NodeOffset, PropertyOffset, ViewError};
+use dt_patch::view::{NodeOffset, PropertyOffset, ViewError};
 
 const DONE: u32 = 0;
 

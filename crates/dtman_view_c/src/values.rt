@@ -1,11 +1,11 @@
 //! Numbers and texts in a value.
 ghost use Rattle.std.specs.Prelude.{◌≡◌};
-ghost use Rattle.dt_view.specs.Cells.{double_cell_in, number_in, string_in};
+ghost use Rattle.dt_patch.specs.View.Cells.{double_cell_in, number_in, string_in};
 ghost use Rattle.dtman_view_c.specs.Parts.{IsGiven, IsPart};
 
 use crate::parts::ViewPart;
 use crate::told::{ViewTold, done, nothing};
-use dt_view::{cell, double_cell, string};
+use dt_patch::view::{cell, double_cell, string};
 
 /// The cell at a place of a value, counted in cells.
 #[unsafe(no_mangle)]

@@ -3,15 +3,15 @@ ghost use Rattle.std.specs.Prelude.{◌≡◌, ◌∷◌, ◌++◌, [], List, le
 ghost use Rattle.dt_tree.specs.NodeData.{NodeData, Siblings, more};
 ghost use Rattle.dt_tree.specs.declared.property.Property.{Property};
 ghost use Rattle.dt_tree.specs.TreeData.{TreeData};
-ghost use Rattle.dt_view.specs.Order.{StandsIn, TellsNext};
-ghost use Rattle.dt_view.specs.Parents.{IsAt, TellsAt};
-ghost use Rattle.dt_view.specs.Shows.{Views};
-ghost use Rattle.dt_view.specs.Standing.{HasNoNode, HasNoProperty, PropertiesFrom, StandFrom, StandsAt};
+ghost use Rattle.dt_patch.specs.View.Order.{StandsIn, TellsNext};
+ghost use Rattle.dt_patch.specs.View.Parents.{IsAt, TellsAt};
+ghost use Rattle.dt_patch.specs.View.Shows.{Views};
+ghost use Rattle.dt_patch.specs.View.Standing.{HasNoNode, HasNoProperty, PropertiesFrom, StandFrom, StandsAt};
 ghost use Rattle.dtman_view_c.specs.Told.{TellsNode, TellsProperty, bad_offset, done, nothing};
-ghost use Rattle.dt_view.specs.Places.{TellsNodes, TellsProperties};
+ghost use Rattle.dt_patch.specs.View.Places.{TellsNodes, TellsProperties};
 
 use crate::told::{ViewTold, done, failed, node_told, property_told};
-use dt_view::{NodeOffset, PropertyOffset, View};
+use dt_patch::view::{NodeOffset, PropertyOffset, View};
 
 /// The first child of a node.
 #[unsafe(no_mangle)]

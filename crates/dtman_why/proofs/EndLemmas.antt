@@ -13,7 +13,7 @@ use Rattle.bus_core.specs.declared.status.Status.TheVariants as status
 use Rattle.bus_core.proofs.HistoryLemmas.{matched-below, matched-available, ready-matched, ready-weaker}
 use Rattle.bus_manager.specs.Notes.{has_settled, has_note}
 use Rattle.bus_manager.specs.Run.{IsRun}
-use Rattle.bus_why.specs.Chain.{bound_by}
+use Rattle.bus_picture.specs.Why.Chain.{bound_by}
 use Rattle.dtman_why.specs.End.{does_bind, AreBound}
 
 binds-is : (v : Verdict) → does_bind v ≡ true → v ≡ Binds

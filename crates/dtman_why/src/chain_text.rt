@@ -1,8 +1,8 @@
 //! A chain as a line.
 
 use crate::reasons::Reasons;
+use bus_picture::why::{Cause, Chain};
 use bus_plan::{Device, Plan};
-use bus_why::{Cause, Chain};
 use std::alloc::{AllocError, Global};
 
 /// Puts a device's path behind a text.

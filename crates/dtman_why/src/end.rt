@@ -2,7 +2,7 @@
 
 ghost use Rattle.std.specs.Prelude.{◌≡◌, length, IfOk};
 ghost use Rattle.bus_core.specs.Least.{IsLeast};
-ghost use Rattle.bus_why.specs.Chain.{bound_by};
+ghost use Rattle.bus_picture.specs.Why.Chain.{bound_by};
 ghost use Rattle.dtman_why.specs.End.{does_bind, AreBound};
 
 use bus_manager::{TableProber, run};

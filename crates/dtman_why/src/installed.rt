@@ -1,10 +1,10 @@
 //! The driver file of an installation of Linux, with what it leaves out.
 
 ghost use Rattle.std.specs.Prelude.{IfOk};
-ghost use Rattle.bus_modules.specs.ModuleDrivers.{IsDriverFile};
+ghost use Rattle.bus_drivers.specs.Modules.ModuleDrivers.{IsDriverFile};
 
 use crate::shown::add_shown;
-use bus_modules::{ModuleDrivers, Origin, Unsaid, module_drivers};
+use bus_drivers::modules::{ModuleDrivers, Origin, Unsaid, module_drivers};
 use dtman_engine::Fault;
 use std::alloc::{AllocError, Global};
 use std::hash::RandomState;

@@ -2,6 +2,7 @@
 #![tactic(auto)]
 
 mod answers;
+pub mod boot_log;
 mod boots;
 mod by_links;
 mod chain_text;

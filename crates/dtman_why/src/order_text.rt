@@ -4,8 +4,8 @@ ghost use Rattle.std.specs.Prelude.{◌<◌, length};
 
 use crate::chain_text::add_path;
 use crate::waits::{device_at, no_device};
+use bus_picture::why::needs;
 use bus_plan::{Device, PathIndex, Plan};
-use bus_why::needs;
 use dtman_engine::Fault;
 use std::alloc::{AllocError, Global};
 

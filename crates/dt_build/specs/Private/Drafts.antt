@@ -1,8 +1,8 @@
 -- What a tree is made of, by language.
 use Rattle.std.specs.Prelude.{◌≡◌, false, None, Vec}
 use Rattle.std.specs.Global.{Global}
-use Rattle.dt_resolve.specs.declared.node_phandles.NodePhandle.{NodePhandle}
-use Rattle.dt_resolve.specs.declared.prepared.Prepared.{Prepared}
+use Rattle.dt_build.specs.declared.resolve.node_phandles.NodePhandle.{NodePhandle}
+use Rattle.dt_build.specs.declared.resolve.prepared.Prepared.{Prepared}
 use Rattle.dt_build.specs.declared.draft.Draft.{Draft}
 
 -- ---- of a source in the profile that is prepared

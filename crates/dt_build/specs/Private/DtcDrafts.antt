@@ -7,9 +7,9 @@ use Rattle.std.specs.Str.{bytes_eq}
 use Rattle.dt_live.specs.declared.live_tree.LiveTree.{LiveTree}
 use Rattle.dt_live.specs.declared.preorder.properties.NodeProperty.{NodeProperty}
 use Rattle.dt_live.specs.Rows.{is_standing}
-use Rattle.dt_edit.specs.Said.{Parts}
-use Rattle.dt_resolve.specs.declared.gathered.Gathered.{Gathered}
-use Rattle.dt_resolve.specs.declared.node_phandles.NodePhandle.{NodePhandle}
+use Rattle.dt_build.specs.Edit.Said.{Parts}
+use Rattle.dt_build.specs.declared.resolve.gathered.Gathered.{Gathered}
+use Rattle.dt_build.specs.declared.resolve.node_phandles.NodePhandle.{NodePhandle}
 pub use Rattle.dt_build.specs.Places.{kept_properties, repeats}
 use Rattle.dt_build.specs.declared.draft.Draft.{Draft}
 

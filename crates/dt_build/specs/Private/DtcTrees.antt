@@ -1,17 +1,17 @@
 -- What is gathered of a source in dtc's language, in a tree that can be held (Devicetree Specification v0.4, section 6.3).
 use Rattle.std.specs.Prelude.{◌≡◌, ℕ, Bool, true, Ok}
-use Rattle.dt_meaning.specs.Syntax.{Meaning}
-use Rattle.dt_meaning.specs.Edits.{has_node}
-use Rattle.dt_meaning.specs.BootProcessor.{boot_processor}
-use Rattle.dt_meaning.specs.DtcEdits.{DtcTree}
-use Rattle.dt_meaning.specs.DtcResolved as meaning
-use Rattle.dt_meaning.specs.DtcStatements.{dtc_edited}
+use Rattle.dt_source.specs.TreeMeaning.Syntax.{Meaning}
+use Rattle.dt_source.specs.TreeMeaning.Edits.{has_node}
+use Rattle.dt_source.specs.TreeMeaning.BootProcessor.{boot_processor}
+use Rattle.dt_source.specs.TreeMeaning.DtcEdits.{DtcTree}
+use Rattle.dt_source.specs.TreeMeaning.DtcResolved as meaning
+use Rattle.dt_source.specs.TreeMeaning.DtcStatements.{dtc_edited}
 use Rattle.dt_live.proofs.Each.{Each}
-use Rattle.dt_edit.specs.declared.standing.Standing.{Standing}
-use Rattle.dt_edit.specs.Standing.{IsStandingOf}
-use Rattle.dt_tree_builder.specs.Standing.{AreNodes}
-use Rattle.dt_resolve.specs.declared.gathered.Gathered.{Gathered}
-use Rattle.dt_resolve.specs.Gathered.{IsGathered, all_gathered}
+use Rattle.dt_build.specs.declared.edit.standing.Standing.{Standing}
+use Rattle.dt_build.specs.Edit.Standing.{IsStandingOf}
+use Rattle.dt_live.specs.Builder.Standing.{AreNodes}
+use Rattle.dt_build.specs.declared.resolve.gathered.Gathered.{Gathered}
+use Rattle.dt_build.specs.Resolve.Gathered.{IsGathered, all_gathered}
 use Rattle.dt_build.specs.Private.Named.{IsName, IsNamed, IsNamedValue}
 
 -- The edits made a tree that boots on this processor, and this is gathered of it. What is left has lawful names, no name and no label

@@ -1,11 +1,11 @@
 -- The phandles of nodes, by the nodes' rows (Devicetree Specification v0.4, section 2.3.3).
 use Rattle.std.specs.Prelude.{◌≡◌, ℕ, ◌==◌, List, [], ◌∷◌, Option, Some, None, if◌then◌else◌, slice_index_or}
 use Rattle.std.specs.Int.{to_be_bytes, w32}
-use Rattle.dt_meaning.specs.Fixups.{phandle_of}
+use Rattle.dt_source.specs.TreeMeaning.Fixups.{phandle_of}
 use Rattle.dt_live.specs.Rows.{node_path}
 use Rattle.dt_build.specs.declared.draft.Draft.{Draft}
 use Rattle.dt_build.specs.Private.Made.{all_phandles}
-use Rattle.dt_resolve.specs.declared.node_phandles.NodePhandle.{NodePhandle}
+use Rattle.dt_build.specs.declared.resolve.node_phandles.NodePhandle.{NodePhandle}
 
 -- the first phandle that a list has for a node, or d where it has none
 abbrev pub first_phandle : List NodePhandle → ℕ → ℕ → ℕ

@@ -3,17 +3,17 @@ use Rattle.std.specs.Prelude.{◌≡◌, ◌<◌, ◌≤◌, ◌-◌, ◌^◌, �
 use Rattle.std.specs.List.{list_any}
 use Rattle.dt_tree.specs.PathMap.{tree_map}
 use Rattle.dt_tree.specs.TreeData.{TreeData}
-use Rattle.dt_meaning.specs.Syntax.{Meaning}
-use Rattle.dt_meaning.specs.Edits.{Definition}
-use Rattle.dt_meaning.specs.References.{Found}
-use Rattle.dt_meaning.specs.MapOf.{tree_map_of}
-use Rattle.dt_meaning.specs.Resolved.{is_too_deep, shallow}
-use Rattle.dt_tree_builder.specs.Sizes.{size_in}
+use Rattle.dt_source.specs.TreeMeaning.Syntax.{Meaning}
+use Rattle.dt_source.specs.TreeMeaning.Edits.{Definition}
+use Rattle.dt_source.specs.TreeMeaning.References.{Found}
+use Rattle.dt_source.specs.TreeMeaning.MapOf.{tree_map_of}
+use Rattle.dt_source.specs.TreeMeaning.Resolved.{is_too_deep, shallow}
+use Rattle.dt_live.specs.Builder.Sizes.{size_in}
 use Rattle.dt_build.specs.declared.draft.Draft.{Draft}
-use Rattle.dt_resolve.specs.declared.error.BuildError.{BuildError}
-use Rattle.dt_resolve.specs.declared.prepared.Prepared.{Prepared}
-use Rattle.dt_resolve.specs.BuildFault.{IsFault}
-use Rattle.dt_resolve.specs.Prepared.{IsPrepared}
+use Rattle.dt_build.specs.declared.resolve.error.BuildError.{BuildError}
+use Rattle.dt_build.specs.declared.resolve.prepared.Prepared.{Prepared}
+use Rattle.dt_build.specs.Resolve.BuildFault.{IsFault}
+use Rattle.dt_build.specs.Resolve.Prepared.{IsPrepared}
 use Rattle.dt_build.specs.BuiltByDtc.{booting}
 use Rattle.dt_build.specs.Private.Drafts.{IsDraftOf}
 use Rattle.dt_build.specs.Private.Made.{lists}

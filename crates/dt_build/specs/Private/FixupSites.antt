@@ -3,17 +3,17 @@ use Rattle.std.specs.Prelude.{◌≡◌, ◌≤◌, ◌<◌, ℕ, Bool, ◌&&◌
 use denote.Ref.{Bor}
 use Rattle.dt_source.specs.declared.tree.Part.{Part}
 use Rattle.dt_source.specs.declared.tree.Reference.{Reference}
-use Rattle.dt_meaning.specs.Names.{local_fixups_name}
-use Rattle.dt_meaning.specs.Paths.{Path}
-use Rattle.dt_meaning.specs.Edits.{Definition, definition}
-use Rattle.dt_meaning.specs.Phandles.{PathPhandle}
-use Rattle.dt_meaning.specs.References.{Found}
-use Rattle.dt_meaning.specs.Fixups.{Site, label_found, sites_in, site_text}
-use Rattle.dt_meaning.specs.Resolved.{is_too_deep}
+use Rattle.dt_source.specs.TreeMeaning.Names.{local_fixups_name}
+use Rattle.dt_source.specs.TreeMeaning.Paths.{Path}
+use Rattle.dt_source.specs.TreeMeaning.Edits.{Definition, definition}
+use Rattle.dt_source.specs.TreeMeaning.Phandles.{PathPhandle}
+use Rattle.dt_source.specs.TreeMeaning.References.{Found}
+use Rattle.dt_source.specs.TreeMeaning.Fixups.{Site, label_found, sites_in, site_text}
+use Rattle.dt_source.specs.TreeMeaning.Resolved.{is_too_deep}
 use Rattle.dt_live.specs.Rows.{node_path}
 use Rattle.dt_live.specs.declared.preorder.properties.NodeProperty.{NodeProperty}
-use Rattle.dt_edit.specs.Said.{Parts}
-use Rattle.dt_resolve.specs.Founds.{found_property}
+use Rattle.dt_build.specs.Edit.Said.{Parts}
+use Rattle.dt_build.specs.Resolve.Founds.{found_property}
 use Rattle.dt_build.specs.declared.draft.Draft.{Draft}
 use Rattle.dt_build.specs.declared.fixup_sites.FixupSite.{FixupSite}
 use Rattle.dt_build.specs.Private.Made.{all_phandles, is_fixed, made_sites}

@@ -1,21 +1,21 @@
 -- A plugin's local fixups, as properties of copies of its nodes (dt-object-internal, section 2).
 use Rattle.std.specs.Prelude.{◌≡◌, ◌≤◌, ◌<◌, ◌+◌, ◌==◌, ◌||◌, ℕ, Bool, true, false, List, [], ◌∷◌, ◌++◌, length, map, take, slice_index_or, All}
 use Rattle.std.specs.List.{filter, flat_map, list_any}
-use Rattle.dt_meaning.specs.Names.{local_fixups_name}
-use Rattle.dt_meaning.specs.Paths.{Path, is_listed}
-use Rattle.dt_meaning.specs.Edits.{Definition, definition}
-use Rattle.dt_meaning.specs.Fixups.{local_fixups}
-use Rattle.dt_meaning.specs.Phandles.{new_ones}
-use Rattle.dt_meaning.specs.References.{held, preorder}
-use Rattle.dt_meaning.specs.Resolved.{Resolved, fronts}
+use Rattle.dt_source.specs.TreeMeaning.Names.{local_fixups_name}
+use Rattle.dt_source.specs.TreeMeaning.Paths.{Path, is_listed}
+use Rattle.dt_source.specs.TreeMeaning.Edits.{Definition, definition}
+use Rattle.dt_source.specs.TreeMeaning.Fixups.{local_fixups}
+use Rattle.dt_source.specs.TreeMeaning.Phandles.{new_ones}
+use Rattle.dt_source.specs.TreeMeaning.References.{held, preorder}
+use Rattle.dt_source.specs.TreeMeaning.Resolved.{Resolved, fronts}
 use Rattle.dt_live.specs.Rows.{IsNode, is_standing, node_path}
 use Rattle.dt_build.specs.declared.draft.Draft.{Draft}
 use Rattle.dt_tree.specs.declared.property.Property.{Property}
 use Rattle.dt_tree.specs.NodeData.{NodeData}
-use Rattle.dt_tree_builder.specs.Lists.{defined_at}
-use Rattle.dt_tree_builder.specs.Builders.{built_lists, last_path}
-use Rattle.dt_tree_builder.specs.Standing.{walked}
-use Rattle.dt_edit.specs.Said.{tree_of}
+use Rattle.dt_live.specs.Builder.Lists.{defined_at}
+use Rattle.dt_live.specs.Builder.Builders.{built_lists, last_path}
+use Rattle.dt_live.specs.Builder.Standing.{walked}
+use Rattle.dt_build.specs.Edit.Said.{tree_of}
 use Rattle.dt_build.specs.Private.NodePhandles.{path_at}
 use Rattle.dt_build.specs.Private.FixupSites.{key_at, site_of}
 use Rattle.dt_build.specs.Private.Made.{fixup_lists, made_sites}

@@ -2,23 +2,23 @@
 use Rattle.std.specs.Prelude.{ℕ, Bool, true, false, not, ◌&&◌, List, [], ◌∷◌, ◌++◌, map}
 use Rattle.std.specs.List.{filter}
 use Rattle.dt_tree.specs.declared.property.Property.{Property}
-use Rattle.dt_meaning.specs.Names.{symbols_name}
-use Rattle.dt_meaning.specs.Paths.{Path}
-use Rattle.dt_meaning.specs.Edits.{Definition, Label, labelled_at}
-use Rattle.dt_meaning.specs.References.{Found, held}
-use Rattle.dt_meaning.specs.Phandles.{PathPhandle}
-use Rattle.dt_meaning.specs.Fixups.{Site, sites, fixups, local_fixups}
-use Rattle.dt_meaning.specs.DtcPhandles.{asks_for_own}
-use Rattle.dt_meaning.specs.Resolved.{Resolved, with_bytes, with_more, when, symbol, phandle_property}
-use Rattle.dt_tree_builder.specs.Lists.{defined_at}
+use Rattle.dt_source.specs.TreeMeaning.Names.{symbols_name}
+use Rattle.dt_source.specs.TreeMeaning.Paths.{Path}
+use Rattle.dt_source.specs.TreeMeaning.Edits.{Definition, Label, labelled_at}
+use Rattle.dt_source.specs.TreeMeaning.References.{Found, held}
+use Rattle.dt_source.specs.TreeMeaning.Phandles.{PathPhandle}
+use Rattle.dt_source.specs.TreeMeaning.Fixups.{Site, sites, fixups, local_fixups}
+use Rattle.dt_source.specs.TreeMeaning.DtcPhandles.{asks_for_own}
+use Rattle.dt_source.specs.TreeMeaning.Resolved.{Resolved, with_bytes, with_more, when, symbol, phandle_property}
+use Rattle.dt_live.specs.Builder.Lists.{defined_at}
 use Rattle.dt_live.specs.declared.live_tree.LabelRow.{LabelRow}
 use Rattle.dt_live.specs.declared.live_tree.LiveTree.{LiveTree}
 use Rattle.dt_live.specs.Rows.{node_path}
-use Rattle.dt_edit.specs.Said.{Parts, tree_of}
+use Rattle.dt_build.specs.Edit.Said.{Parts, tree_of}
 use Rattle.dt_build.specs.declared.draft.Draft.{Draft}
-use Rattle.dt_resolve.specs.Founds.{found_properties}
-use Rattle.dt_resolve.specs.Gathered.{targets_anew}
-use Rattle.dt_resolve.specs.NodePhandles.{path_phandle_of}
+use Rattle.dt_build.specs.Resolve.Founds.{found_properties}
+use Rattle.dt_build.specs.Resolve.Gathered.{targets_anew}
+use Rattle.dt_build.specs.Resolve.NodePhandles.{path_phandle_of}
 
 -- the values with their references found, in the order of the walk
 abbrev pub founds : Draft → List (Definition (List Found))

@@ -2,9 +2,9 @@
 use Rattle.std.specs.Prelude.{◌≡◌, ◌≤◌, ℕ, true, false, List, [], ◌∷◌, length}
 use Rattle.std.specs.Str.{bytes_eq}
 use Rattle.dt_tree.specs.Name.{is_name}
-use Rattle.dt_meaning.specs.Paths.{Path}
-use Rattle.dt_meaning.specs.Syntax.{Target, OfLabel, OfPath, Piece, Plain, PhandleOf, PathOf, Stored}
-use Rattle.dt_meaning.specs.Edits.{Definition, Label, State, is_of}
+use Rattle.dt_source.specs.TreeMeaning.Paths.{Path}
+use Rattle.dt_source.specs.TreeMeaning.Syntax.{Target, OfLabel, OfPath, Piece, Plain, PhandleOf, PathOf, Stored}
+use Rattle.dt_source.specs.TreeMeaning.Edits.{Definition, Label, State, is_of}
 use Rattle.dt_live.proofs.Each.{Each}
 
 abbrev pub IsName : List ℕ → Type 0

@@ -1,7 +1,7 @@
 -- Nodes in preorder, and their phandles.
 use Rattle.std.specs.Prelude.{◌≡◌, ◌+◌, ◌==◌, ℕ, false, length, slice_index_or}
 use Rattle.std.specs.List.{list_any}
-use Rattle.dt_meaning.specs.Paths.{Path}
+use Rattle.dt_source.specs.TreeMeaning.Paths.{Path}
 use Rattle.dt_live.specs.Rows.{IsNode, node_path}
 use Rattle.dt_build.specs.declared.draft.Draft.{Draft}
 use Rattle.dt_build.specs.declared.node_phandles.NodePhandles.{NodePhandles}

@@ -1,12 +1,12 @@
 -- The places of what is made of a draft, with the references in values.
 use Rattle.std.specs.Prelude.{◌≡◌, ℕ, List, [], length, map}
 use Rattle.std.specs.List.{flat_map}
-use Rattle.dt_meaning.specs.Edits.{Definition}
-use Rattle.dt_meaning.specs.Fixups.{sites_in}
-use Rattle.dt_meaning.specs.Phandles.{PathPhandle}
-use Rattle.dt_meaning.specs.References.{Found}
-use Rattle.dt_making.specs.declared.places.Places.{Places}
-use Rattle.dt_making.specs.Places.{totals}
+use Rattle.dt_source.specs.TreeMeaning.Edits.{Definition}
+use Rattle.dt_source.specs.TreeMeaning.Fixups.{sites_in}
+use Rattle.dt_source.specs.TreeMeaning.Phandles.{PathPhandle}
+use Rattle.dt_source.specs.TreeMeaning.References.{Found}
+use Rattle.dt_live.specs.declared.making.places.Places.{Places}
+use Rattle.dt_live.specs.Making.Places.{totals}
 use Rattle.dt_build.specs.Places.{AreOfRows}
 use Rattle.dt_build.specs.declared.draft.Draft.{Draft}
 use Rattle.dt_build.specs.declared.places.References.{References}

@@ -4,17 +4,17 @@ use Rattle.std.specs.Int.{to_be_bytes, w32}
 use Rattle.std.specs.List.{list_all, flat_map}
 use Rattle.dt_tree.specs.Name.{is_name}
 use Rattle.dt_tree.specs.Sound.{are_distinct}
-use Rattle.dt_meaning.specs.Paths.{Path, is_listed}
-use Rattle.dt_meaning.specs.Fixups.{phandle_of}
-use Rattle.dt_meaning.specs.References.{Found, Bytes, Cell, Open, PathText, held, preorder}
-use Rattle.dt_meaning.specs.Resolved.{when}
+use Rattle.dt_source.specs.TreeMeaning.Paths.{Path, is_listed}
+use Rattle.dt_source.specs.TreeMeaning.Fixups.{phandle_of}
+use Rattle.dt_source.specs.TreeMeaning.References.{Found, Bytes, Cell, Open, PathText, held, preorder}
+use Rattle.dt_source.specs.TreeMeaning.Resolved.{when}
 use Rattle.dt_live.specs.Rows.{IsLiveTree, IsNode, is_standing, node_path}
-use Rattle.dt_tree_builder.specs.Standing.{AreNodes}
-use Rattle.dt_edit.specs.Said.{tree_of}
+use Rattle.dt_live.specs.Builder.Standing.{AreNodes}
+use Rattle.dt_build.specs.Edit.Said.{tree_of}
 use Rattle.dt_build.specs.declared.draft.Draft.{Draft}
-use Rattle.dt_resolve.specs.NodePhandles.{AreStanding}
-use Rattle.dt_resolve.specs.Gathered.{targets_anew}
-use Rattle.dt_resolve.specs.Targets.{IsKnown, IsToldApart}
+use Rattle.dt_build.specs.Resolve.NodePhandles.{AreStanding}
+use Rattle.dt_build.specs.Resolve.Gathered.{targets_anew}
+use Rattle.dt_build.specs.Resolve.Targets.{IsKnown, IsToldApart}
 use Rattle.dt_build.specs.Private.FirstPhandle.{IsByPath, number_of}
 use Rattle.dt_build.specs.Private.Made.{added_phandles, fixed, founds, own}
 

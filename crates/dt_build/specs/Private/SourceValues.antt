@@ -1,8 +1,8 @@
 -- What a tree is made of: the values of a draft, with the phandles of its nodes.
 use Rattle.std.specs.Prelude.{false, All, Some, None, if◌then◌else◌, slice_index_or}
-use Rattle.dt_making.specs.Made.{Made}
+use Rattle.dt_live.specs.Making.Made.{Made}
 use Rattle.dt_build.specs.declared.draft.Draft.{Draft}
-use Rattle.dt_resolve.specs.Targets.{IsKnown}
+use Rattle.dt_build.specs.Resolve.Targets.{IsKnown}
 use Rattle.dt_build.specs.declared.node_phandles.NodePhandles.{NodePhandles}
 use Rattle.dt_build.specs.declared.source_values.SourceValues.{SourceValues}
 use Rattle.dt_build.specs.Private.FirstPhandle.{IsByPath}

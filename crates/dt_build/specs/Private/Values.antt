@@ -1,13 +1,13 @@
 -- The bytes of values whose references have targets (Devicetree Specification v0.4, section 6.3).
 use Rattle.std.specs.Prelude.{ℕ, List, [], ◌∷◌, drop, Option}
 use Rattle.dt_source.specs.declared.tree.Part.{Part}
-use Rattle.dt_meaning.specs.Paths.{Path}
-use Rattle.dt_meaning.specs.Fixups.{bytes_of, value_bytes}
-use Rattle.dt_meaning.specs.Phandles.{PathPhandle}
+use Rattle.dt_source.specs.TreeMeaning.Paths.{Path}
+use Rattle.dt_source.specs.TreeMeaning.Fixups.{bytes_of, value_bytes}
+use Rattle.dt_source.specs.TreeMeaning.Phandles.{PathPhandle}
 use Rattle.dt_live.specs.Rows.{node_path}
-use Rattle.dt_edit.specs.Said.{Parts}
+use Rattle.dt_build.specs.Edit.Said.{Parts}
 use Rattle.dt_build.specs.declared.draft.Draft.{Draft}
-pub use Rattle.dt_resolve.specs.Founds.{uses, all_uses, label_in, cell_for, text_for, found_of, founds_of}
+pub use Rattle.dt_build.specs.Resolve.Founds.{uses, all_uses, label_in, cell_for, text_for, found_of, founds_of}
 use Rattle.dt_build.specs.Private.Made.{all_phandles}
 
 -- of a draft: the bytes of a part with its target, and of a value whose targets are the first of these

@@ -2,7 +2,7 @@
 use Rattle.std.specs.Prelude.{None}
 use Rattle.dt_live.specs.declared.live_tree.LiveTree.{LiveTree}
 use Rattle.dt_live.specs.Flattened.{Lent, lists}
-use Rattle.dt_making.specs.Made.{Made}
+use Rattle.dt_live.specs.Making.Made.{Made}
 
 -- no node gets a phandle
 abbrev pub copied : LiveTree Lent → Made

@@ -3,21 +3,21 @@ use Rattle.std.specs.Prelude.{◌≡◌, ◌≤◌, ◌<◌, ℕ, Bool, suc, tru
 use Rattle.std.specs.List.{filter, list_any}
 use Rattle.std.specs.Str.{bytes_eq}
 use Rattle.dt_tree.specs.Steps.{then_do, fold}
-use Rattle.dt_meaning.specs.MapOf.{value_in}
-use Rattle.dt_meaning.specs.Paths.{Path, is_within}
-use Rattle.dt_meaning.specs.Resolved.{Resolved, is_too_deep}
+use Rattle.dt_source.specs.TreeMeaning.MapOf.{value_in}
+use Rattle.dt_source.specs.TreeMeaning.Paths.{Path, is_within}
+use Rattle.dt_source.specs.TreeMeaning.Resolved.{Resolved, is_too_deep}
 use Rattle.dt_live.specs.declared.live_tree.LiveTree.{LiveTree}
 use Rattle.dt_live.specs.declared.live_tree.NodeRow.{NodeRow}
 use Rattle.dt_live.specs.declared.live_tree.PropertyRow.{PropertyRow}
 use Rattle.dt_live.specs.Rows.{IsKept, IsNode, is_standing, node_path, row_at, property_at}
 use Rattle.dt_live.specs.Flattened.{Lent, lists}
-use Rattle.dt_overlay_meaning.specs.Applied.{clashes, merged, moved, moved_value, with_fragment, with_nodes, with_values}
-use Rattle.dt_overlay_meaning.specs.Shifted.{fragments}
-use Rattle.dt_overlay_meaning.specs.Fault.{Fault, NoTarget}
-use Rattle.dt_fixup.specs.declared.error.OverlayError.{OverlayError}
-use Rattle.dt_fixup.specs.declared.patched_overlay.PatchedOverlay.{PatchedOverlay}
-use Rattle.dt_fixup.specs.OverlayFault.{Leaves}
-use Rattle.dt_fixup.specs.PatchedOverlay.{patched_lists}
+use Rattle.dt_source.specs.OverlayMeaning.Applied.{clashes, merged, moved, moved_value, with_fragment, with_nodes, with_values}
+use Rattle.dt_source.specs.OverlayMeaning.Shifted.{fragments}
+use Rattle.dt_source.specs.OverlayMeaning.Fault.{Fault, NoTarget}
+use Rattle.dt_overlay.specs.declared.fixup.error.OverlayError.{OverlayError}
+use Rattle.dt_overlay.specs.declared.fixup.patched_overlay.PatchedOverlay.{PatchedOverlay}
+use Rattle.dt_overlay.specs.Fixup.OverlayFault.{Leaves}
+use Rattle.dt_overlay.specs.Fixup.PatchedOverlay.{patched_lists}
 use Rattle.dt_overlay.specs.declared.fragments.Fragment.{Fragment}
 use Rattle.dt_overlay.specs.declared.part.Part.{Part}
 

@@ -3,16 +3,16 @@ use Rattle.std.specs.Prelude.{◌≡◌, ◌<◌, ◌+◌, ℕ, List, [], ◌∷
 use denote.Ref.{Bor}
 use Rattle.std.specs.List.{slice_split}
 use Rattle.dt_tree.specs.Path.{behind_slashes, is_slash, path_text, text_or_root}
-use Rattle.dt_meaning.specs.Names.{overlay_name}
-use Rattle.dt_meaning.specs.Paths.{Path, is_listed}
-use Rattle.dt_meaning.specs.Resolved.{Resolved}
+use Rattle.dt_source.specs.TreeMeaning.Names.{overlay_name}
+use Rattle.dt_source.specs.TreeMeaning.Paths.{Path, is_listed}
+use Rattle.dt_source.specs.TreeMeaning.Resolved.{Resolved}
 use Rattle.dt_live.specs.declared.live_tree.LiveTree.{LiveTree}
 use Rattle.dt_live.specs.Rows.{IsNode, node_path}
 use Rattle.dt_live.specs.Flattened.{Lent, lists}
-use Rattle.dt_overlay_meaning.specs.Applied.{body, symbol_path, target}
-use Rattle.dt_overlay_meaning.specs.Texts.{ended_path}
-use Rattle.dt_fixup.specs.declared.patched_overlay.PatchedOverlay.{PatchedOverlay}
-use Rattle.dt_fixup.specs.PatchedOverlay.{patched_lists}
+use Rattle.dt_source.specs.OverlayMeaning.Applied.{body, symbol_path, target}
+use Rattle.dt_source.specs.OverlayMeaning.Texts.{ended_path}
+use Rattle.dt_overlay.specs.declared.fixup.patched_overlay.PatchedOverlay.{PatchedOverlay}
+use Rattle.dt_overlay.specs.Fixup.PatchedOverlay.{patched_lists}
 use Rattle.dt_overlay.specs.declared.fragments.Fragment.{Fragment}
 use Rattle.dt_overlay.specs.Private.Fragments.{AreItsFragments, IsTarget}
 

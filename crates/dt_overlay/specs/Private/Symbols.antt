@@ -3,20 +3,20 @@ use Rattle.std.specs.Prelude.{◌≡◌, ℕ, List, [], ◌∷◌, ◌++◌, Opt
 use Rattle.std.specs.List.{flat_map, filter}
 use Rattle.dt_tree.specs.Steps.{then_do, fold}
 use Rattle.dt_tree.specs.Path.{behind_slashes, path_text, text_or_root}
-use Rattle.dt_meaning.specs.Paths.{Path, same_path}
-use Rattle.dt_meaning.specs.Names.{symbols_name}
-use Rattle.dt_meaning.specs.Edits.{definition, put}
-use Rattle.dt_meaning.specs.Resolved.{Resolved}
+use Rattle.dt_source.specs.TreeMeaning.Paths.{Path, same_path}
+use Rattle.dt_source.specs.TreeMeaning.Names.{symbols_name}
+use Rattle.dt_source.specs.TreeMeaning.Edits.{definition, put}
+use Rattle.dt_source.specs.TreeMeaning.Resolved.{Resolved}
 use Rattle.dt_live.specs.declared.live_tree.LiveTree.{LiveTree}
 use Rattle.dt_live.specs.declared.live_tree.NodeRow.{NodeRow}
 use Rattle.dt_live.specs.Rows.{path_of, property_at}
 use Rattle.dt_live.specs.Flattened.{Lent, lists}
-use Rattle.dt_overlay_meaning.specs.Applied.{symbol_path, with_fragment, with_node, with_symbols}
-use Rattle.dt_overlay_meaning.specs.Fault.{Fault}
-use Rattle.dt_overlay_meaning.specs.Shifted.{Value, fragments}
-use Rattle.dt_overlay_meaning.specs.Texts.{ended_path}
-use Rattle.dt_fixup.specs.declared.patched_overlay.PatchedOverlay.{PatchedOverlay}
-use Rattle.dt_fixup.specs.PatchedOverlay.{patched_lists, value_at}
+use Rattle.dt_source.specs.OverlayMeaning.Applied.{symbol_path, with_fragment, with_node, with_symbols}
+use Rattle.dt_source.specs.OverlayMeaning.Fault.{Fault}
+use Rattle.dt_source.specs.OverlayMeaning.Shifted.{Value, fragments}
+use Rattle.dt_source.specs.OverlayMeaning.Texts.{ended_path}
+use Rattle.dt_overlay.specs.declared.fixup.patched_overlay.PatchedOverlay.{PatchedOverlay}
+use Rattle.dt_overlay.specs.Fixup.PatchedOverlay.{patched_lists, value_at}
 use Rattle.dt_overlay.specs.declared.symbols.Symbol.{Symbol}
 
 -- a symbol's property, where its path begins in a fragment

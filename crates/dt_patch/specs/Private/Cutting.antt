@@ -5,8 +5,8 @@ use Rattle.dt_blob.specs.BigEndian.{word}
 use Rattle.dt_blob.specs.Blob.{padding}
 use Rattle.dt_blob.specs.Holds.{Holds}
 use Rattle.dt_blob.specs.Token.{Token}
-use Rattle.dt_view.specs.declared.view.View.{View}
-use Rattle.dt_view.specs.Reserved.{reserved_size}
+use Rattle.dt_patch.specs.declared.view.view.View.{View}
+use Rattle.dt_patch.specs.View.Reserved.{reserved_size}
 use Rattle.dt_patch.specs.declared.error.PatchError.{PatchError}
 use Rattle.dt_patch.specs.declared.splicing.Gap.{Gap}
 use Rattle.dt_patch.specs.declared.splicing.Plan.{Plan}

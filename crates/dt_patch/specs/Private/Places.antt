@@ -6,11 +6,11 @@ use Rattle.dt_tree.specs.PathMap.{node_at, value_of}
 use Rattle.dt_tree.specs.TreeData.{TreeData}
 use Rattle.dt_blob.specs.Holds.{Holds}
 use Rattle.dt_blob.specs.Token.{begin_node}
-use Rattle.dt_view.specs.declared.nodes.NodeOffset.{NodeOffset}
-use Rattle.dt_view.specs.declared.properties.PlacedProperty.{PlacedProperty}
-use Rattle.dt_view.specs.declared.view.View.{View}
-use Rattle.dt_view.specs.Reaching.{Reached, before_node, before_property}
-use Rattle.dt_view.specs.Standing.{StandsAt}
+use Rattle.dt_patch.specs.declared.view.nodes.NodeOffset.{NodeOffset}
+use Rattle.dt_patch.specs.declared.view.properties.PlacedProperty.{PlacedProperty}
+use Rattle.dt_patch.specs.declared.view.view.View.{View}
+use Rattle.dt_patch.specs.View.Reaching.{Reached, before_node, before_property}
+use Rattle.dt_patch.specs.View.Standing.{StandsAt}
 use Rattle.dt_patch.specs.Setting.{HoldsWith}
 
 -- the bytes with others from a place on

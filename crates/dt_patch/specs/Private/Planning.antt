@@ -9,11 +9,11 @@ use Rattle.dt_blob.specs.HeaderWords.{header_fault, strings_of}
 use Rattle.dt_blob.specs.Holds.{Holds}
 use Rattle.dt_blob.specs.Strings.{ended, lowest_place}
 use Rattle.dt_blob.specs.Token.{Token, begin_node, property, property_tokens, tokens_of}
-use Rattle.dt_query.specs.Set.{IsWithProperty}
-use Rattle.dt_view.specs.declared.view.View.{View}
-use Rattle.dt_view.specs.Reaching.{Reached}
-use Rattle.dt_view.specs.Reserved.{reserved_size}
-use Rattle.dt_view.specs.Shows.{IsOver, Views}
+use Rattle.dt_blob.specs.Query.Set.{IsWithProperty}
+use Rattle.dt_patch.specs.declared.view.view.View.{View}
+use Rattle.dt_patch.specs.View.Reaching.{Reached}
+use Rattle.dt_patch.specs.View.Reserved.{reserved_size}
+use Rattle.dt_patch.specs.View.Shows.{IsOver, Views}
 use Rattle.dt_patch.specs.declared.error.PatchError.{PatchError}
 use Rattle.dt_patch.specs.declared.planning.SetPlan.{SetPlan}
 use Rattle.dt_patch.specs.declared.splicing.Plan.{Plan}

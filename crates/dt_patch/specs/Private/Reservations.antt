@@ -2,7 +2,7 @@
 use Rattle.std.specs.Prelude.{◌≡◌, ℕ, ◌+◌, ◌-◌, ◌≤◌, ◌^◌, max, List, ◌++◌}
 use Rattle.dt_blob.specs.BigEndian.{double_word}
 use Rattle.dt_blob.specs.HeaderWords.{word_at}
-use Rattle.dt_view.specs.declared.view.View.{View}
+use Rattle.dt_patch.specs.declared.view.view.View.{View}
 use Rattle.dt_patch.specs.declared.layout.Layout.{Layout}
 use Rattle.dt_patch.specs.declared.reserving.ReserveList.{ReserveList}
 use Rattle.dt_patch.specs.declared.splicing.Gap.{Gap}

@@ -1,22 +1,22 @@
 -- Reading the statements of a body, and the values of its properties.
 use Rattle.std.specs.Prelude.{ℕ, zero, suc, Bool, true, false, List, [], ◌∷◌, ◌++◌, ◌||◌, length, map, Option, Some, None, Result, Ok, Err, if◌then◌else◌}
-use Rattle.dt_lexeme.specs.declared.language.Language.{Language}
-use Rattle.dt_lexeme.specs.declared.language.Language.TheVariants.{Profile, Dtc}
-use Rattle.dt_lexeme.specs.declared.lexeme.Lexeme.{Lexeme}
-use Rattle.dt_lexeme.specs.declared.lexeme.Fault.{Fault}
-use Rattle.dt_lexeme.specs.declared.lexeme.Refusal.{Refusal}
-use Rattle.dt_lexeme.specs.declared.lexeme.Kind.{Kind}
-use Rattle.dt_lexeme.specs.declared.lexeme.Kind.TheVariants.{Bits, DeleteNode, DeleteProperty, IncludeBinary, Label, Name, Literal, Character, Text, Reference, PathReference, Pair, Semicolon, Brace, EndBrace, Equals, Comma, Less, Greater, Square, EndSquare, Paren}
-use Rattle.dt_expression.specs.declared.elements.Width.{Width}
-use Rattle.dt_expression.specs.declared.elements.Width.TheVariants.{ThirtyTwo}
+use Rattle.dt_text.specs.declared.lexeme.language.Language.{Language}
+use Rattle.dt_text.specs.declared.lexeme.language.Language.TheVariants.{Profile, Dtc}
+use Rattle.dt_text.specs.declared.lexeme.lexeme.Lexeme.{Lexeme}
+use Rattle.dt_text.specs.declared.lexeme.lexeme.Fault.{Fault}
+use Rattle.dt_text.specs.declared.lexeme.lexeme.Refusal.{Refusal}
+use Rattle.dt_text.specs.declared.lexeme.lexeme.Kind.{Kind}
+use Rattle.dt_text.specs.declared.lexeme.lexeme.Kind.TheVariants.{Bits, DeleteNode, DeleteProperty, IncludeBinary, Label, Name, Literal, Character, Text, Reference, PathReference, Pair, Semicolon, Brace, EndBrace, Equals, Comma, Less, Greater, Square, EndSquare, Paren}
+use Rattle.dt_text.specs.declared.expression.elements.Width.{Width}
+use Rattle.dt_text.specs.declared.expression.elements.Width.TheVariants.{ThirtyTwo}
 use Rattle.dt_source.specs.declared.cell.Cell.{Cell}
 use Rattle.dt_source.specs.declared.cell.Cell.TheVariants as cells
-use Rattle.dt_expression.specs.Values.{literal_of}
-use Rattle.dt_expression.specs.Reading.{◌>>=◌, Read, syntax_at, too_deep}
-use Rattle.dt_expression.specs.ReadingExpressions.{primary_at}
+use Rattle.dt_text.specs.Expression.Values.{literal_of}
+use Rattle.dt_text.specs.Expression.Reading.{◌>>=◌, Read, syntax_at, too_deep}
+use Rattle.dt_text.specs.Expression.ReadingExpressions.{primary_at}
 use Rattle.dt_source.specs.Reading.Several.{earlier, Part, many}
 use Rattle.dt_source.specs.Reading.Files.{included_at}
-use Rattle.dt_meaning.specs.Syntax.{Piece, Plain, PathOf, Entry, Defines, Undefines, Child, Removes, body_of}
+use Rattle.dt_source.specs.TreeMeaning.Syntax.{Piece, Plain, PathOf, Entry, Defines, Undefines, Child, Removes, body_of}
 use Rattle.dt_source.specs.Strings.{string_bytes, string_faults, pair_byte}
 use Rattle.dt_source.specs.Pieces.{target_of, width_at, width_in, fault_in, cell_fault, cells_pieces, joined}
 use Rattle.dt_source.specs.Marks.{is_label, is_mark, omits, labels_in}

@@ -1,15 +1,15 @@
 -- Reading the words that name a part of a file: `/incbin/("NAME")`, `/incbin/("NAME", OFFSET, LENGTH)`.
 use Rattle.std.specs.Prelude.{ℕ, List, [], ◌∷◌, Option, Some, None, Result, Ok, Err}
-use Rattle.dt_lexeme.specs.declared.language.Language.{Language}
-use Rattle.dt_lexeme.specs.declared.lexeme.Lexeme.{Lexeme}
-use Rattle.dt_lexeme.specs.declared.lexeme.Fault.{Fault}
-use Rattle.dt_lexeme.specs.declared.lexeme.Refusal.{Refusal}
-use Rattle.dt_lexeme.specs.declared.lexeme.Kind.{Kind}
-use Rattle.dt_lexeme.specs.declared.lexeme.Kind.TheVariants.{Text, Comma, Paren, EndParen}
-use Rattle.dt_expression.specs.Values.{Value}
-use Rattle.dt_expression.specs.Reading.{◌>>=◌, Read, syntax_at}
-use Rattle.dt_expression.specs.ReadingExpressions.{primary_at}
-use Rattle.dt_meaning.specs.Syntax.{Piece}
+use Rattle.dt_text.specs.declared.lexeme.language.Language.{Language}
+use Rattle.dt_text.specs.declared.lexeme.lexeme.Lexeme.{Lexeme}
+use Rattle.dt_text.specs.declared.lexeme.lexeme.Fault.{Fault}
+use Rattle.dt_text.specs.declared.lexeme.lexeme.Refusal.{Refusal}
+use Rattle.dt_text.specs.declared.lexeme.lexeme.Kind.{Kind}
+use Rattle.dt_text.specs.declared.lexeme.lexeme.Kind.TheVariants.{Text, Comma, Paren, EndParen}
+use Rattle.dt_text.specs.Expression.Values.{Value}
+use Rattle.dt_text.specs.Expression.Reading.{◌>>=◌, Read, syntax_at}
+use Rattle.dt_text.specs.Expression.ReadingExpressions.{primary_at}
+use Rattle.dt_source.specs.TreeMeaning.Syntax.{Piece}
 use Rattle.dt_source.specs.Reading.Several.{earlier, Part}
 use Rattle.dt_source.specs.Strings.{string_faults}
 use Rattle.dt_source.specs.Pieces.{fault_in, portion_pieces}

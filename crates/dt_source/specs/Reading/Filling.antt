@@ -1,7 +1,7 @@
 -- Filling in a value part by part.
 use Rattle.std.specs.Prelude.{Ok}
-use Rattle.dt_expression.specs.Reading.{◌>>=◌}
-use Rattle.dt_meaning.specs.Syntax.{Piece}
+use Rattle.dt_text.specs.Expression.Reading.{◌>>=◌}
+use Rattle.dt_source.specs.TreeMeaning.Syntax.{Piece}
 use Rattle.dt_source.specs.Filled.{Filled}
 use Rattle.dt_source.specs.Reading.Values.{Built, put}
 

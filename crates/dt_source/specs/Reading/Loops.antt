@@ -1,12 +1,12 @@
 -- What loops that read keep: what was read before, and what is still read.
 use Rattle.std.specs.Prelude.{ℕ, List, [], ◌∷◌, Option, Some, None, Ok, fold}
-use Rattle.dt_lexeme.specs.declared.lexeme.Fault.{Fault}
-use Rattle.dt_lexeme.specs.declared.lexeme.Lexeme.{Lexeme}
-use Rattle.dt_lexeme.specs.declared.lexeme.Kind.{Kind}
-use Rattle.dt_lexeme.specs.declared.lexeme.Kind.TheVariants.{Comma}
-use Rattle.dt_expression.specs.Reading.{◌>>=◌}
+use Rattle.dt_text.specs.declared.lexeme.lexeme.Fault.{Fault}
+use Rattle.dt_text.specs.declared.lexeme.lexeme.Lexeme.{Lexeme}
+use Rattle.dt_text.specs.declared.lexeme.lexeme.Kind.{Kind}
+use Rattle.dt_text.specs.declared.lexeme.lexeme.Kind.TheVariants.{Comma}
+use Rattle.dt_text.specs.Expression.Reading.{◌>>=◌}
 use Rattle.dt_source.specs.Reading.Several.{earlier, Part}
-use Rattle.dt_meaning.specs.Syntax.{Piece}
+use Rattle.dt_source.specs.TreeMeaning.Syntax.{Piece}
 use Rattle.dt_source.specs.Reading.Values.{Built, put_all}
 
 -- what was read, put behind the parts that are there

@@ -2,10 +2,10 @@
 use Rattle.std.specs.Prelude.{List, Option, Result, Vec, map, option_map}
 use Rattle.std.specs.Borrow.{Bor}
 use Rattle.std.specs.Global.{Global}
-use Rattle.dt_lexeme.specs.declared.lexeme.Fault.{Fault}
-use Rattle.dt_lexeme.specs.declared.lexeme.Lexeme.{Lexeme}
-use Rattle.dt_lexeme.specs.declared.lexeme.ReadError.{ReadError}
-use Rattle.dt_meaning.specs.Syntax.{Target, Piece, Entry, Body, Edit}
+use Rattle.dt_text.specs.declared.lexeme.lexeme.Fault.{Fault}
+use Rattle.dt_text.specs.declared.lexeme.lexeme.Lexeme.{Lexeme}
+use Rattle.dt_text.specs.declared.lexeme.lexeme.ReadError.{ReadError}
+use Rattle.dt_source.specs.TreeMeaning.Syntax.{Target, Piece, Entry, Body, Edit}
 use Rattle.dt_source.specs.declared.parts.Parts.{Parts}
 use Rattle.dt_source.specs.declared.reading.Read.{Read}
 use Rattle.dt_source.specs.declared.tree.Reference.{Reference}

@@ -1,7 +1,7 @@
 -- A value while it is read.
 use Rattle.std.specs.Prelude.{ℕ, List, [], ◌∷◌, ◌++◌, fold, map}
 use Rattle.dt_source.specs.declared.parts.Parts.{Parts}
-use Rattle.dt_meaning.specs.Syntax.{Piece, Plain, PhandleOf, PathOf, Stored}
+use Rattle.dt_source.specs.TreeMeaning.Syntax.{Piece, Plain, PhandleOf, PathOf, Stored}
 use Rattle.dt_source.specs.Tree.{part_view}
 
 -- the parts that are closed, and the bytes behind them

@@ -1,17 +1,17 @@
 -- Reading a whole source.
 use Rattle.std.specs.Prelude.{ℕ, suc, Bool, true, false, ◌||◌, List, [], ◌∷◌, length, map, flat_map, fold, Option, Some, None, Result, Ok, Err, if◌then◌else◌}
-use Rattle.dt_lexeme.specs.declared.language.Language.{Language}
-use Rattle.dt_lexeme.specs.declared.language.Language.TheVariants.{Profile, Dtc}
-use Rattle.dt_lexeme.specs.declared.lexeme.Lexeme.{Lexeme}
-use Rattle.dt_lexeme.specs.declared.lexeme.Fault.{Fault}
-use Rattle.dt_lexeme.specs.declared.lexeme.Refusal.{Refusal}
-use Rattle.dt_lexeme.specs.declared.lexeme.Kind.{Kind}
-use Rattle.dt_lexeme.specs.declared.lexeme.Kind.TheVariants.{Version, Plugin, MemReserve, DeleteNode, OmitIfNoRef, Reference, PathReference, Brace, Slash}
-use Rattle.dt_expression.specs.Values.{Value}
-use Rattle.dt_expression.specs.Reading.{◌>>=◌, Read, syntax_at}
-use Rattle.dt_expression.specs.ReadingExpressions.{primary_at}
+use Rattle.dt_text.specs.declared.lexeme.language.Language.{Language}
+use Rattle.dt_text.specs.declared.lexeme.language.Language.TheVariants.{Profile, Dtc}
+use Rattle.dt_text.specs.declared.lexeme.lexeme.Lexeme.{Lexeme}
+use Rattle.dt_text.specs.declared.lexeme.lexeme.Fault.{Fault}
+use Rattle.dt_text.specs.declared.lexeme.lexeme.Refusal.{Refusal}
+use Rattle.dt_text.specs.declared.lexeme.lexeme.Kind.{Kind}
+use Rattle.dt_text.specs.declared.lexeme.lexeme.Kind.TheVariants.{Version, Plugin, MemReserve, DeleteNode, OmitIfNoRef, Reference, PathReference, Brace, Slash}
+use Rattle.dt_text.specs.Expression.Values.{Value}
+use Rattle.dt_text.specs.Expression.Reading.{◌>>=◌, Read, syntax_at}
+use Rattle.dt_text.specs.Expression.ReadingExpressions.{primary_at}
 use Rattle.dt_source.specs.Reading.Several.{earlier, Part, many}
-use Rattle.dt_meaning.specs.Syntax.{Target, Piece, Body, body_of, Edit, Rooted, Extends, Deletes, Omits, Meaning}
+use Rattle.dt_source.specs.TreeMeaning.Syntax.{Target, Piece, Body, body_of, Edit, Rooted, Extends, Deletes, Omits, Meaning}
 use Rattle.dt_source.specs.Pieces.{target_of, fault_in}
 use Rattle.dt_source.specs.Marks.{is_label}
 use Rattle.dt_source.specs.Words.{label_bytes}

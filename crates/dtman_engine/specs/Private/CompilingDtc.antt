@@ -1,7 +1,7 @@
 -- What the parts of compiling in dtc's language answer.
 use Rattle.std.specs.Prelude.{◌≡◌, ℕ, List, Option, Some, None}
-use Rattle.dt_lexeme.specs.declared.lexeme.ReadError.{ReadError}
-use Rattle.dt_lexeme.specs.declared.lexeme.ReadError.TheVariants.{NoMemory, Refused}
+use Rattle.dt_text.specs.declared.lexeme.lexeme.ReadError.{ReadError}
+use Rattle.dt_text.specs.declared.lexeme.lexeme.ReadError.TheVariants.{NoMemory, Refused}
 use Rattle.dt_tree.specs.PathMap.{TreeMap}
 use Rattle.dt_build.specs.BuiltByDtc.{booting}
 use Rattle.dtman_engine.specs.CompileDtc.{lacking}

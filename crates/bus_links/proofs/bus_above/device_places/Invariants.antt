@@ -1,5 +1,5 @@
 use Rattle.std.proofs.Common.{◌≡◌, ◌++◌, drop}
-use Rattle.bus_bindings.specs.LinkNodes.{places_from}
+use Rattle.bus_links.specs.Bindings.LinkNodes.{places_from}
 use Rattle.bus_links.proofs.bus_above.device_places.Given as goal
 
 -- the places so far and those of the nodes that are left are all

@@ -1,7 +1,7 @@
 use Rattle.std.proofs.Common.{List, subst}
 use Rattle.std.specs.Prelude.{IfOk}
 use Rattle.bus_plan.specs.Plan.{PlannedDevice}
-use Rattle.bus_reach.specs.Components.{AreComponents}
+use Rattle.bus_plan.specs.Reach.Components.{AreComponents}
 use Rattle.bus_links.proofs.linking.components_by.Goals as goal
 
 pub returns : goal.returns

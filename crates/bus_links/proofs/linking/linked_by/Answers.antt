@@ -1,7 +1,7 @@
 -- Plans of the tree's links are lawful.
 use Rattle.std.proofs.Common.{◌∙◌, subst}
 use Rattle.bus_drivers.specs.Driver.{DriverSetData, IsDriverSet}
-use Rattle.bus_bindings.specs.BindingView.{is_strict}
+use Rattle.bus_links.specs.Bindings.BindingView.{is_strict}
 use Rattle.bus_links.proofs.LawfulLinks.{lawful_linked}
 use Rattle.bus_links.proofs.linking.linked_by.Goals as goal
 

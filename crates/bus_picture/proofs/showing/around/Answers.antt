@@ -1,6 +1,6 @@
 use Rattle.std.proofs.Common.{◌≡◌, ◌||◌, ℕ, ◌<◌, false, List, length, replicate, ap, ◌∙◌, arith}
 use Rattle.bus_links.specs.Links.{flag_at}
-use Rattle.bus_reach.specs.Reached.{is_in}
+use Rattle.bus_plan.specs.Reach.Reached.{is_in}
 use Rattle.bus_picture.proofs.ShownLemmas.{around, unset}
 use Rattle.bus_picture.proofs.showing.around.Goals as goal
 

@@ -1,7 +1,7 @@
 use Rattle.std.proofs.Common.{◌≡◌, ℕ, ◌<◌, length, drop}
 use Rattle.std.specs.Prelude.{◌||◌}
 use Rattle.bus_links.specs.Links.{flag_at}
-use Rattle.bus_reach.specs.Reached.{is_in}
+use Rattle.bus_plan.specs.Reach.Reached.{is_in}
 use Rattle.bus_picture.proofs.showing.flag_all.Given as goal
 
 -- the flags so far and those of the devices that are left are all

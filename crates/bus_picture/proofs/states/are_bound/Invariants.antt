@@ -1,6 +1,6 @@
 use Rattle.std.proofs.Common.{◌≡◌, drop}
 use Rattle.std.specs.List.{list_all}
-use Rattle.bus_why.specs.Chain.{bound_by}
+use Rattle.bus_picture.specs.Why.Chain.{bound_by}
 use Rattle.bus_picture.proofs.states.are_bound.Given as goal
 
 abbrev pub invariant-loop-device : goal.invariant-loop-device

@@ -1,5 +1,5 @@
 use Rattle.std.proofs.Common.{Ok, Err, if◌then◌else◌, is_some, sym, ap, ◌∙◌}
-use Rattle.dt_meaning.specs.Statements.{TooDeep}
+use Rattle.dt_source.specs.TreeMeaning.Statements.{TooDeep}
 use Rattle.dt_build.specs.Private.Made.{lists}
 use Rattle.dt_build.proofs.building.draft_tree.Goals as goal
 

@@ -1,5 +1,5 @@
 use Rattle.std.proofs.Common.{◌∙◌}
-use Rattle.dt_tree_builder.specs.Sizes.{size_in}
+use Rattle.dt_live.specs.Builder.Sizes.{size_in}
 use Rattle.dt_build.specs.Private.Made.{lists}
 use Rattle.dt_build.proofs.BuildingSteps.{fits-within, passed, too-long, tree-made}
 use Rattle.dt_build.proofs.building.fitting_tree.Goals as goal

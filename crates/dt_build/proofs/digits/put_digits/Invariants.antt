@@ -1,6 +1,6 @@
 use Rattle.std.proofs.Common.{◌≡◌, ◌≤◌, drop, length, false}
 use Rattle.std.specs.Fmt.{digits_onto}
-use Rattle.dt_meaning.specs.Names.{decimal}
+use Rattle.dt_source.specs.TreeMeaning.Names.{decimal}
 use Rattle.dt_build.proofs.digits.put_digits.Given as goal
 
 abbrev pub invariant-loop-at : goal.invariant-loop-at

@@ -2,7 +2,7 @@ use Rattle.std.proofs.Common.{ℕ, List, None, Err, Ok, Some, ap, ◌∙◌, sub
 use Rattle.std.proofs.lemmas.Result.{err_from_is_err_and}
 use Rattle.dt_source.specs.Meaning.{meaning_of}
 use Rattle.dt_live.specs.declared.preorder.properties.NodeProperty.{NodeProperty}
-use Rattle.dt_edit.specs.Said.{Parts}
+use Rattle.dt_build.specs.Edit.Said.{Parts}
 use Rattle.dt_build.specs.declared.draft.Draft.{Draft}
 use Rattle.dt_build.specs.Places.{AreOfRows, first_root, kept_properties}
 use Rattle.dt_build.specs.Private.Fitting.{MakesTree}

@@ -1,6 +1,6 @@
 use Rattle.std.proofs.Common.{◌≡◌, take}
 use Rattle.std.specs.List.{filter}
-use Rattle.dt_resolve.specs.Private.Gone.{is_marked}
+use Rattle.dt_build.specs.Resolve.Private.Gone.{is_marked}
 use Rattle.dt_build.specs.Private.DtcDrafts.{is_added}
 use Rattle.dt_build.proofs.dtc_draft.added_phandles.Given as goal
 

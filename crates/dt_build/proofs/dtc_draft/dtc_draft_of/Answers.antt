@@ -2,9 +2,9 @@ use Rattle.std.proofs.Common.{◌≡◌, ◌∙◌, ◌&&◌, ℕ, List, Bool, n
 use Rattle.std.specs.List.{filter}
 use Rattle.dt_live.specs.declared.preorder.properties.NodeProperty.{NodeProperty}
 use Rattle.dt_live.specs.Rows.{is_standing}
-use Rattle.dt_edit.specs.Said.{Parts}
-use Rattle.dt_resolve.specs.Private.Gone.{is_marked}
-use Rattle.dt_resolve.proofs.LeftRows.{filter-same}
+use Rattle.dt_build.specs.Edit.Said.{Parts}
+use Rattle.dt_build.specs.Resolve.Private.Gone.{is_marked}
+use Rattle.dt_build.proofs.ResolveLemmas.LeftRows.{filter-same}
 use Rattle.dt_build.specs.Private.DtcDrafts.{has_own_row, is_added, kept_properties}
 use Rattle.dt_build.proofs.dtc_draft.dtc_draft_of.Goals as goal
 

@@ -1,5 +1,5 @@
 use Rattle.std.proofs.Common.{◌≡◌, length, take}
-use Rattle.dt_resolve.specs.NodePhandles.{AreMarks}
+use Rattle.dt_build.specs.Resolve.NodePhandles.{AreMarks}
 use Rattle.dt_build.specs.Private.DtcDrafts.{has_own_row}
 use Rattle.dt_build.proofs.dtc_draft.own_marks.Given as goal
 

@@ -1,13 +1,13 @@
 use Rattle.std.proofs.Common.{◌≡◌, ◌+◌, ◌<◌, ◌≤◌, ◌++◌, List, ℕ, Option, length, drop, get_or, map, sym, ap, ap₂, ◌∙◌, subst, append-nil, arith}
 use Rattle.std.specs.Prelude.{All}
 use Rattle.std.proofs.lemmas.List.{drop_all}
-use Rattle.dt_meaning.specs.Fixups.{sites}
-use Rattle.dt_meaning.specs.Resolved.{when}
+use Rattle.dt_source.specs.TreeMeaning.Fixups.{sites}
+use Rattle.dt_source.specs.TreeMeaning.Resolved.{when}
 use Rattle.dt_source.specs.declared.tree.Part.{Part}
 use Rattle.dt_live.specs.Rows.{IsNode, node_path}
 use Rattle.dt_live.specs.declared.preorder.properties.NodeProperty.{NodeProperty}
-use Rattle.dt_edit.specs.Said.{Parts}
-use Rattle.dt_resolve.specs.Targets.{IsKnown, IsToldApart}
+use Rattle.dt_build.specs.Edit.Said.{Parts}
+use Rattle.dt_build.specs.Resolve.Targets.{IsKnown, IsToldApart}
 use Rattle.dt_build.specs.Private.FixupSites.{AreBetween, all_left, site_of}
 use Rattle.dt_build.specs.Private.Made.{all_phandles, fixed}
 use Rattle.dt_build.specs.Private.Values.{all_uses}

@@ -1,7 +1,7 @@
 use Rattle.std.proofs.Common.{◌≡◌, ◌++◌, true, drop, map}
 use Rattle.std.specs.Prelude.{All}
 use Rattle.dt_live.specs.Rows.{node_path}
-use Rattle.dt_resolve.specs.Targets.{IsKnown, IsToldApart}
+use Rattle.dt_build.specs.Resolve.Targets.{IsKnown, IsToldApart}
 use Rattle.dt_build.specs.Private.FixupSites.{AreBetween, all_left, site_of}
 use Rattle.dt_build.specs.Private.Made.{all_phandles, made_sites}
 use Rattle.dt_build.proofs.fixup_sites.find_sites.Given as goal

@@ -1,7 +1,7 @@
 use Rattle.std.proofs.Common.{◌∙◌, ◌&&◌, not, sym, ap}
 use Rattle.dt_live.specs.Rows.{node_path}
-use Rattle.dt_meaning.specs.DtcPhandles.{asks_for_own}
-use Rattle.dt_resolve.specs.Founds.{found_property}
+use Rattle.dt_source.specs.TreeMeaning.DtcPhandles.{asks_for_own}
+use Rattle.dt_build.specs.Resolve.Founds.{found_property}
 use Rattle.dt_build.proofs.fixup_sites.gives_sites.Goals as goal
 
 pub returns-then-not-draft : goal.returns-then-not-draft

@@ -1,8 +1,8 @@
 use Rattle.std.proofs.Common.{◌∙◌, ◌++◌, [], List, map, if◌then◌else◌, sym, ap, append-nil}
-use Rattle.dt_meaning.specs.Fixups.{sites_in}
+use Rattle.dt_source.specs.TreeMeaning.Fixups.{sites_in}
 use Rattle.dt_live.specs.Rows.{node_path}
 use Rattle.dt_source.specs.declared.tree.Part.{Part}
-use Rattle.dt_resolve.specs.Founds.{found_property, founds_of}
+use Rattle.dt_build.specs.Resolve.Founds.{found_property, founds_of}
 use Rattle.dt_build.specs.Private.FixupSites.{key_at, site_of}
 use Rattle.dt_build.specs.Private.Made.{all_phandles}
 use Rattle.dt_build.proofs.fixup_sites.put_fixed.Goals as goal

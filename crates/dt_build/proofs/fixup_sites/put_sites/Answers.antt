@@ -1,11 +1,11 @@
 use Rattle.std.proofs.Common.{◌+◌, ◌++◌, ℕ, zero, suc, List, [], ◌∷◌, Option, None, get_or, drop, map, sym, ap, ◌∙◌, subst, append-nil, arith}
 use Rattle.std.specs.Prelude.{All}
 use Rattle.std.proofs.lemmas.List.{drop_all}
-use Rattle.dt_meaning.specs.Fixups.{sites_in}
+use Rattle.dt_source.specs.TreeMeaning.Fixups.{sites_in}
 use Rattle.dt_live.specs.Rows.{node_path}
 use Rattle.dt_live.specs.declared.live_tree.LiveTree.{LiveTree}
-use Rattle.dt_edit.specs.Said.{Parts}
-use Rattle.dt_resolve.specs.Targets.{IsKnown}
+use Rattle.dt_build.specs.Edit.Said.{Parts}
+use Rattle.dt_build.specs.Resolve.Targets.{IsKnown}
 use Rattle.dt_build.specs.Private.FixupSites.{key_at, site_of}
 use Rattle.dt_build.specs.Private.Made.{all_phandles}
 use Rattle.dt_build.specs.Private.Values.{found_of, founds_of}

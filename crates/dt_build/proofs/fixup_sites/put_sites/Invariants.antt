@@ -1,5 +1,5 @@
 use Rattle.std.proofs.Common.{◌≡◌, ◌+◌, ◌++◌, ◌≤◌, drop, map}
-use Rattle.dt_meaning.specs.Fixups.{sites_in}
+use Rattle.dt_source.specs.TreeMeaning.Fixups.{sites_in}
 use Rattle.dt_live.specs.Rows.{node_path}
 use Rattle.dt_build.specs.Private.FixupSites.{AreBetween, key_at, site_of}
 use Rattle.dt_build.specs.Private.Made.{all_phandles}

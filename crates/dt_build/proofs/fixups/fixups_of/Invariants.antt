@@ -1,6 +1,6 @@
 use Rattle.std.proofs.Common.{◌≡◌, ◌++◌, []}
-use Rattle.dt_meaning.specs.Fixups.{fixups}
-use Rattle.dt_tree_builder.specs.Lists.{defined_at}
+use Rattle.dt_source.specs.TreeMeaning.Fixups.{fixups}
+use Rattle.dt_live.specs.Builder.Lists.{defined_at}
 use Rattle.dt_build.specs.Private.ByLabel.{fixups_path, given}
 use Rattle.dt_build.specs.Private.Made.{made_sites}
 use Rattle.dt_build.proofs.fixups.fixups_of.Given as goal

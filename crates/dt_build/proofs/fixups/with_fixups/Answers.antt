@@ -1,9 +1,9 @@
 use Rattle.std.proofs.Common.{◌≡◌, ◌<◌, ◌∷◌, [], ◌-◌, ◌++◌, length, take, ap, ◌∙◌, arith}
 use Rattle.std.proofs.lemmas.Bool.Decides.{nat_tests}
-use Rattle.dt_tree_builder.specs.Lists.{with_last}
-use Rattle.dt_tree_builder.specs.Builders.{built_lists, last_path}
-use Rattle.dt_tree_builder.specs.Standing.{walked}
-use Rattle.dt_tree_builder.proofs.MakingWalk.{ok-more}
+use Rattle.dt_live.specs.Builder.Lists.{with_last}
+use Rattle.dt_live.specs.Builder.Builders.{built_lists, last_path}
+use Rattle.dt_live.specs.Builder.Standing.{walked}
+use Rattle.dt_live.proofs.BuilderLemmas.MakingWalk.{ok-more}
 use Rattle.dt_build.specs.Private.Made.{fixup_lists}
 use Rattle.dt_build.proofs.FixupsMade.{distinct-labels, node-new, whole-fixups}
 use Rattle.dt_build.proofs.fixups.with_fixups.Goals as goal

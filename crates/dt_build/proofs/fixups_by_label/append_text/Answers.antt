@@ -1,6 +1,6 @@
 use Rattle.std.proofs.Common.{◌++◌, ◌∷◌, [], sym, ap, ◌∙◌}
 use Rattle.dt_tree.specs.Path.{path_text}
-use Rattle.dt_meaning.specs.Fixups.{site_text}
+use Rattle.dt_source.specs.TreeMeaning.Fixups.{site_text}
 use Rattle.dt_live.specs.Rows.{node_path, path_of}
 use Rattle.dt_build.specs.Private.FixupSites.{open_label, site_with}
 use Rattle.dt_build.proofs.Sites.{key-read}

@@ -1,6 +1,6 @@
 use Rattle.std.proofs.Common.{◌+◌, drop, map, sym, ap, ◌∙◌}
 use Rattle.std.proofs.lemmas.List.{drop_all}
-use Rattle.dt_meaning.specs.Fixups.{fixups}
+use Rattle.dt_source.specs.TreeMeaning.Fixups.{fixups}
 use Rattle.dt_build.specs.Private.ByLabel.{given}
 use Rattle.dt_build.specs.Private.FixupSites.{site_of}
 use Rattle.dt_build.proofs.Sites.{site-known, split}

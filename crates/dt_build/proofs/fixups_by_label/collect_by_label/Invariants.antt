@@ -1,5 +1,5 @@
 use Rattle.std.proofs.Common.{◌≡◌, [], drop, map}
-use Rattle.dt_meaning.specs.Fixups.{fixups}
+use Rattle.dt_source.specs.TreeMeaning.Fixups.{fixups}
 use Rattle.dt_build.specs.Private.ByLabel.{AreIndexed, given}
 use Rattle.dt_build.specs.Private.Made.{made_sites}
 use Rattle.dt_build.specs.Private.FixupSites.{site_of}

@@ -1,5 +1,5 @@
 use Rattle.std.proofs.Common.{Some, refl, sym, ap, ◌∙◌}
-use Rattle.dt_meaning.specs.Fixups.{fixup, site_text}
+use Rattle.dt_source.specs.TreeMeaning.Fixups.{fixup, site_text}
 use Rattle.dt_build.specs.Private.ByLabel.{given}
 use Rattle.dt_build.specs.Private.FixupSites.{open_label, site_of}
 use Rattle.dt_build.proofs.ByLabelSteps.{index-set, text-given}

@@ -1,8 +1,8 @@
 use Rattle.std.proofs.Common.{◌≡◌, ◌<◌, ◌++◌, ◌+◌, ℕ, [], true, length, map, slice_index_or}
 use Rattle.std.specs.Prelude.{All}
-use Rattle.dt_meaning.specs.References.{held}
+use Rattle.dt_source.specs.TreeMeaning.References.{held}
 use Rattle.dt_live.specs.Rows.{is_standing, node_path}
-use Rattle.dt_tree_builder.specs.Lists.{defined_at}
+use Rattle.dt_live.specs.Builder.Lists.{defined_at}
 use Rattle.dt_build.specs.Private.LocalFixups.{local_definitions, local_path}
 use Rattle.dt_build.proofs.local_nodes.local_lists.Given as goal
 

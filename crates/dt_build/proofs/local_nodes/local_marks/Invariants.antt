@@ -1,7 +1,7 @@
 use Rattle.std.proofs.Common.{◌≡◌, ◌+◌, ℕ, true, false, length, slice_index_or, take}
 use Rattle.std.specs.List.{list_any}
-use Rattle.dt_meaning.specs.Paths.{is_listed}
-use Rattle.dt_meaning.specs.Resolved.{fronts}
+use Rattle.dt_source.specs.TreeMeaning.Paths.{is_listed}
+use Rattle.dt_source.specs.TreeMeaning.Resolved.{fronts}
 use Rattle.dt_live.specs.Rows.{is_standing, node_path}
 use Rattle.dt_build.specs.Private.FixupSites.{key_at}
 use Rattle.dt_build.proofs.local_nodes.local_marks.Given as goal

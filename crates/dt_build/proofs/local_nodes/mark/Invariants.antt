@@ -1,6 +1,6 @@
 use Rattle.std.proofs.Common.{◌≡◌, ◌≤◌, ◌||◌, ℕ, true, false, length, slice_index_or}
-use Rattle.dt_meaning.specs.Paths.{is_listed}
-use Rattle.dt_meaning.specs.Resolved.{fronts}
+use Rattle.dt_source.specs.TreeMeaning.Paths.{is_listed}
+use Rattle.dt_source.specs.TreeMeaning.Resolved.{fronts}
 use Rattle.dt_live.specs.Rows.{is_standing, node_path}
 use Rattle.dt_build.proofs.local_nodes.mark.Given as goal
 

@@ -1,11 +1,11 @@
 use Rattle.std.proofs.Common.{◌≡◌, ◌<◌, ◌∷◌, ◌∙◌, [], true, List, length, map, get_or, set, refl, ap, ap₂, sym, subst, arith}
 use Rattle.std.proofs.lemmas.Bool.Decides.{nat_tests}
 use Rattle.std.proofs.lemmas.List.{map-set, get_or-map, get_or_default, length-map, length-set}
-use Rattle.dt_meaning.specs.Names.{local_fixups_name}
-use Rattle.dt_meaning.specs.Paths.{is_listed}
-use Rattle.dt_meaning.specs.References.{held}
-use Rattle.dt_tree_builder.specs.Lists.{defined_at, with_last}
-use Rattle.dt_tree_builder.specs.Builders.{built_lists}
+use Rattle.dt_source.specs.TreeMeaning.Names.{local_fixups_name}
+use Rattle.dt_source.specs.TreeMeaning.Paths.{is_listed}
+use Rattle.dt_source.specs.TreeMeaning.References.{held}
+use Rattle.dt_live.specs.Builder.Lists.{defined_at, with_last}
+use Rattle.dt_live.specs.Builder.Builders.{built_lists}
 use Rattle.dt_build.specs.Private.LocalFixups.{AreMarks, all_local, first_local, has_local, local_path, with_locals}
 use Rattle.dt_build.specs.Private.NodePhandles.{path_at}
 use Rattle.dt_live.proofs.MakingNodes.{below-root, root-at}

@@ -1,5 +1,5 @@
 use Rattle.std.proofs.Common.{◌≡◌, ◌-◌, ◌≤◌, ℕ, [], drop, length, map}
-use Rattle.dt_meaning.specs.Fixups.{local_fixups}
+use Rattle.dt_source.specs.TreeMeaning.Fixups.{local_fixups}
 use Rattle.dt_build.specs.Private.Made.{made_sites}
 use Rattle.dt_build.specs.Private.FixupSites.{AreBetween, site_of}
 use Rattle.dt_build.specs.Private.LocalFixups.{AreBelow, local_definitions, places}

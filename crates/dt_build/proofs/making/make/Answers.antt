@@ -1,8 +1,8 @@
 use Rattle.std.proofs.Common.{◌≡◌, ap, ◌∙◌}
 use Rattle.dt_tree.specs.PathMap.{path_map}
-use Rattle.dt_meaning.specs.MapOf.{map_of}
-use Rattle.dt_tree_builder.specs.Builders.{built_lists}
-use Rattle.dt_tree_builder.proofs.MakingWalk.{ok-more}
+use Rattle.dt_source.specs.TreeMeaning.MapOf.{map_of}
+use Rattle.dt_live.specs.Builder.Builders.{built_lists}
+use Rattle.dt_live.proofs.BuilderLemmas.MakingWalk.{ok-more}
 use Rattle.dt_build.specs.Private.Made.{lists}
 use Rattle.dt_build.proofs.ListsOfPrepared.{map-lists_walked}
 use Rattle.dt_build.proofs.making.make.Goals as goal

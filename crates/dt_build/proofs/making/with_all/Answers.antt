@@ -1,5 +1,5 @@
 use Rattle.std.proofs.Common.{sym, ap, ◌∙◌, rules}
-use Rattle.dt_tree_builder.specs.Standing.{walked}
+use Rattle.dt_live.specs.Builder.Standing.{walked}
 use Rattle.dt_build.proofs.ListsOfPrepared.{lists-ordinary}
 use Rattle.dt_build.proofs.making.with_all.Goals as goal
 

@@ -1,6 +1,6 @@
 use Rattle.std.proofs.Common.{List, ℕ, Option, subst, sym}
 use Rattle.dt_live.specs.Rows.{node_path}
-use Rattle.dt_making.specs.Made.{IsRest}
+use Rattle.dt_live.specs.Making.Made.{IsRest}
 use Rattle.dt_build.specs.Private.Made.{all_phandles}
 use Rattle.dt_build.specs.Private.SourceValues.{source_made}
 use Rattle.dt_build.specs.Private.Values.{values_of}

@@ -1,9 +1,9 @@
 use Rattle.std.proofs.Common.{◌∙◌, ◌∷◌, ◌++◌, [], ℕ, List, sym, ap}
 use Rattle.std.specs.Str.{bytes_eq}
 use Rattle.dt_source.specs.declared.tree.Part.{Part}
-use Rattle.dt_meaning.specs.DtcResolved.{is_string_of}
-use Rattle.dt_resolve.specs.Founds.{founds_of}
-use Rattle.dt_resolve.proofs.PartSteps.{alone}
+use Rattle.dt_source.specs.TreeMeaning.DtcResolved.{is_string_of}
+use Rattle.dt_build.specs.Resolve.Founds.{founds_of}
+use Rattle.dt_build.proofs.ResolveLemmas.PartSteps.{alone}
 use Rattle.dt_build.proofs.NodeNames.{not-alone, not-file, not-path}
 use Rattle.dt_build.proofs.node_names.is_text.Goals as goal
 

@@ -1,7 +1,7 @@
 use Rattle.std.proofs.Common.{◌≡◌, ◌∙◌, ◌+◌, ◌==◌, ◌<◌, List, ℕ, ap, get_or, length, arith}
 use Rattle.std.specs.List.{list_any}
 use Rattle.std.proofs.lemmas.List.{get_or-replicate, length-replicate}
-use Rattle.dt_resolve.specs.declared.node_phandles.NodePhandle.{NodePhandle}
+use Rattle.dt_build.specs.declared.resolve.node_phandles.NodePhandle.{NodePhandle}
 use Rattle.dt_build.specs.Private.FirstPhandle.{first_phandle}
 use Rattle.dt_build.proofs.node_phandles.number.Goals as goal
 

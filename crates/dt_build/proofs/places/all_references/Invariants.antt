@@ -1,8 +1,8 @@
 use Rattle.std.proofs.Common.{◌≡◌, ◌++◌, drop, length, map}
 use Rattle.std.specs.Prelude.{All}
 use Rattle.std.specs.List.{flat_map}
-use Rattle.dt_making.specs.Places.{totals}
-use Rattle.dt_resolve.specs.Targets.{IsKnown}
+use Rattle.dt_live.specs.Making.Places.{totals}
+use Rattle.dt_build.specs.Resolve.Targets.{IsKnown}
 use Rattle.dt_build.specs.Private.Places.{offsets}
 use Rattle.dt_build.proofs.PlaceSteps.{offsets_left}
 use Rattle.dt_build.proofs.places.all_references.Given as goal

@@ -1,7 +1,7 @@
 use Rattle.std.proofs.Common.{◌≡◌, ◌≤◌, List, ℕ, length, map, slice_index_or, ap, ap₂, ◌∙◌, arith}
 use Rattle.dt_live.specs.declared.preorder.properties.NodeProperty.{NodeProperty}
-use Rattle.dt_making.specs.Places.{totals}
-use Rattle.dt_edit.specs.Said.{Parts}
+use Rattle.dt_live.specs.Making.Places.{totals}
+use Rattle.dt_build.specs.Edit.Said.{Parts}
 use Rattle.dt_build.specs.Places.{count_of, node_place}
 use Rattle.dt_build.proofs.PlaceSteps.{same-at}
 use Rattle.dt_build.proofs.places.places_of.Goals as goal

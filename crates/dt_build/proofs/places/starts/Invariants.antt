@@ -1,5 +1,5 @@
 use Rattle.std.proofs.Common.{◌≡◌, ◌++◌, drop, map, slice_index_or}
-use Rattle.dt_making.specs.Places.{totals}
+use Rattle.dt_live.specs.Making.Places.{totals}
 use Rattle.dt_build.proofs.places.starts.Given as goal
 
 abbrev pub invariant-loop-node : goal.invariant-loop-node

@@ -1,7 +1,7 @@
 use Rattle.std.proofs.Common.{◌-◌, ◌^◌, map, min, ap, ◌∙◌, sym}
-use Rattle.dt_meaning.specs.Resolved.{symbol}
-use Rattle.dt_tree_builder.specs.Sizes.{size_in}
-use Rattle.dt_edit.specs.Said.{tree_of}
+use Rattle.dt_source.specs.TreeMeaning.Resolved.{symbol}
+use Rattle.dt_live.specs.Builder.Sizes.{size_in}
+use Rattle.dt_build.specs.Edit.Said.{tree_of}
 use Rattle.dt_build.specs.Private.Made.{made_properties, symbol_lists}
 use Rattle.dt_build.proofs.MakingSizes.{size-plain, size-symbols, sum-capped}
 use Rattle.dt_build.proofs.sizes.labels_size.Goals as goal

@@ -1,5 +1,5 @@
 use Rattle.dt_build.proofs.MakingSizes.{size-lists, sum-capped}
-use Rattle.dt_tree_builder.specs.Sizes.{size_in}
+use Rattle.dt_live.specs.Builder.Sizes.{size_in}
 use Rattle.dt_build.specs.Private.FixupSites.{sites_size}
 use Rattle.dt_build.specs.Private.Made.{lists, made_sites, symbol_lists}
 use Rattle.dt_build.proofs.sizes.total_size.Goals as goal

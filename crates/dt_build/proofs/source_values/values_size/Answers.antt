@@ -1,12 +1,12 @@
 use Rattle.std.proofs.Common.{◌≡◌, ◌≤◌, ◌<◌, ◌-◌, ◌^◌, ◌∙◌, List, ℕ, Option, drop, min, ap, arith, get_or, length, subst, sym}
 use Rattle.std.specs.Prelude.{All}
 use Rattle.dt_source.specs.declared.tree.Part.{Part}
-use Rattle.dt_meaning.specs.Fixups.{value_bytes}
+use Rattle.dt_source.specs.TreeMeaning.Fixups.{value_bytes}
 use Rattle.dt_live.specs.declared.preorder.properties.NodeProperty.{NodeProperty}
 use Rattle.dt_live.specs.Rows.{node_path}
-use Rattle.dt_tree_builder.specs.Sizes.{size_in}
-use Rattle.dt_edit.specs.Said.{Parts}
-use Rattle.dt_resolve.specs.Targets.{IsKnown}
+use Rattle.dt_live.specs.Builder.Sizes.{size_in}
+use Rattle.dt_build.specs.Edit.Said.{Parts}
+use Rattle.dt_build.specs.Resolve.Targets.{IsKnown}
 use Rattle.dt_build.specs.Private.Made.{all_phandles, plain_properties}
 use Rattle.dt_build.specs.Private.Values.{all_uses, founds_of}
 use Rattle.dt_build.proofs.SourceOrder.{source-bytes}

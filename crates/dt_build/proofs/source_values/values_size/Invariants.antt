@@ -1,8 +1,8 @@
 use Rattle.std.proofs.Common.{◌≡◌, ◌+◌, ◌-◌, ◌^◌, ◌≤◌, drop, min}
 use Rattle.std.specs.Prelude.{All}
 use Rattle.dt_live.specs.Rows.{node_path}
-use Rattle.dt_tree_builder.specs.Sizes.{size_in}
-use Rattle.dt_resolve.specs.Targets.{IsKnown}
+use Rattle.dt_live.specs.Builder.Sizes.{size_in}
+use Rattle.dt_build.specs.Resolve.Targets.{IsKnown}
 use Rattle.dt_build.specs.Private.Made.{all_phandles, plain_properties}
 use Rattle.dt_build.proofs.SourceSteps.{made}
 use Rattle.dt_build.proofs.source_values.values_size.Given as goal

@@ -1,12 +1,12 @@
 use Rattle.std.proofs.Common.{◌≡◌, ◌<◌, ◌∷◌, [], true, length, map, sym, ap, ◌∙◌, arith}
 use Rattle.std.proofs.lemmas.List.{take_all}
 use Rattle.dt_tree.specs.Name.{is_name}
-use Rattle.dt_meaning.specs.Names.{symbols_name}
-use Rattle.dt_meaning.specs.Resolved.{symbol}
-use Rattle.dt_tree_builder.specs.Lists.{defined_at}
+use Rattle.dt_source.specs.TreeMeaning.Names.{symbols_name}
+use Rattle.dt_source.specs.TreeMeaning.Resolved.{symbol}
+use Rattle.dt_live.specs.Builder.Lists.{defined_at}
 use Rattle.dt_live.specs.Rows.{is_standing, label_at, node_path, worn}
 use Rattle.dt_live.proofs.Each.{each-of}
-use Rattle.dt_edit.specs.Said.{tree_of}
+use Rattle.dt_build.specs.Edit.Said.{tree_of}
 use Rattle.dt_build.proofs.MakingLabels.{lawful-label, property-more, symbols-same}
 use Rattle.dt_build.proofs.symbols.symbols_of.Goals as goal
 use Rattle.dt_build.proofs.symbols.symbols_of.Goals.{then-is_in_tree+in_ok-symbol_of+in_ok-push, else-is_in_tree}

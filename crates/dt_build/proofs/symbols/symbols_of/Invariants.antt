@@ -1,8 +1,8 @@
 use Rattle.std.proofs.Common.{◌≡◌, ◌∷◌, [], map, take}
-use Rattle.dt_meaning.specs.Names.{symbols_name}
-use Rattle.dt_meaning.specs.Resolved.{symbol}
+use Rattle.dt_source.specs.TreeMeaning.Names.{symbols_name}
+use Rattle.dt_source.specs.TreeMeaning.Resolved.{symbol}
 use Rattle.dt_live.specs.Rows.{is_standing, node_path, worn}
-use Rattle.dt_tree_builder.specs.Lists.{defined_at}
+use Rattle.dt_live.specs.Builder.Lists.{defined_at}
 use Rattle.dt_build.proofs.symbols.symbols_of.Given as goal
 
 abbrev pub invariant-loop-row : goal.invariant-loop-row

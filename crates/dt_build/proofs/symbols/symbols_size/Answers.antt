@@ -1,7 +1,7 @@
 use Rattle.std.proofs.Common.{◌-◌, ◌^◌, ◌++◌, ◌∷◌, [], length, min, sym, ap, ◌∙◌}
 use Rattle.dt_tree.specs.Path.{path_text}
 use Rattle.dt_live.specs.Rows.{is_standing, label_at, node_path, path_of}
-use Rattle.dt_tree_builder.specs.Sizes.{size_in}
+use Rattle.dt_live.specs.Builder.Sizes.{size_in}
 use Rattle.dt_build.proofs.MakingLabels.{size-more, symbols-same}
 use Rattle.dt_build.proofs.symbols.symbols_size.Goals as goal
 use Rattle.dt_build.proofs.symbols.symbols_size.Goals.{then-is_in_tree, else-is_in_tree}

@@ -1,7 +1,7 @@
 use Rattle.std.proofs.Common.{◌≡◌, ◌-◌, ◌^◌, map, min, take}
-use Rattle.dt_meaning.specs.Resolved.{symbol}
+use Rattle.dt_source.specs.TreeMeaning.Resolved.{symbol}
 use Rattle.dt_live.specs.Rows.{is_standing, node_path, worn}
-use Rattle.dt_tree_builder.specs.Sizes.{size_in}
+use Rattle.dt_live.specs.Builder.Sizes.{size_in}
 use Rattle.dt_build.proofs.symbols.symbols_size.Given as goal
 
 abbrev pub invariant-loop-label : goal.invariant-loop-label

@@ -1,10 +1,10 @@
 use Rattle.std.proofs.Common.{◌≡◌, ◌==◌, ◌||◌, ◌∷◌, [], ◌-◌, ◌++◌, true, not, List, length, take, sym, ap, ◌∙◌}
 use Rattle.dt_tree.specs.declared.property.Property.{Property}
-use Rattle.dt_tree_builder.specs.Lists.{with_last}
-use Rattle.dt_tree_builder.specs.Builders.{built_lists, last_path}
-use Rattle.dt_tree_builder.specs.Standing.{walked}
-use Rattle.dt_tree_builder.proofs.MakingWalk.{ok-more}
-use Rattle.dt_edit.specs.Said.{tree_of}
+use Rattle.dt_live.specs.Builder.Lists.{with_last}
+use Rattle.dt_live.specs.Builder.Builders.{built_lists, last_path}
+use Rattle.dt_live.specs.Builder.Standing.{walked}
+use Rattle.dt_live.proofs.BuilderLemmas.MakingWalk.{ok-more}
+use Rattle.dt_build.specs.Edit.Said.{tree_of}
 use Rattle.dt_build.specs.Private.Made.{symbol_lists}
 use Rattle.dt_build.proofs.MakingLabels.{distinct-symbols}
 use Rattle.dt_build.proofs.MakingWhole.{symbols-new, whole}

@@ -1,12 +1,12 @@
 use Rattle.std.proofs.Common.{◌+◌, ◌++◌, ℕ, Option, drop, ap, sym, subst, ◌∙◌, append-nil, arith}
 use Rattle.std.proofs.lemmas.List.{drop_all}
-use Rattle.dt_meaning.specs.Fixups.{value_bytes}
+use Rattle.dt_source.specs.TreeMeaning.Fixups.{value_bytes}
 use Rattle.dt_live.specs.Rows.{node_path}
-use Rattle.dt_resolve.specs.Targets.{IsKnown}
+use Rattle.dt_build.specs.Resolve.Targets.{IsKnown}
 use Rattle.dt_build.specs.Private.FirstPhandle.{IsByPath}
 use Rattle.dt_build.specs.Private.Made.{all_phandles}
 use Rattle.dt_build.specs.Private.Values.{found_of, founds_of}
-use Rattle.dt_resolve.proofs.PartSteps.{at-or-none}
+use Rattle.dt_build.proofs.ResolveLemmas.PartSteps.{at-or-none}
 use Rattle.dt_build.proofs.ValueSteps.{bytes-more, founds-step, uses-few}
 use Rattle.dt_build.proofs.value.value_bytes.Goals as goal
 

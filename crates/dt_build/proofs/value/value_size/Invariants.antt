@@ -1,5 +1,5 @@
 use Rattle.std.proofs.Common.{◌≡◌, ◌+◌, ◌-◌, ◌^◌, ◌≤◌, drop, length, min}
-use Rattle.dt_meaning.specs.Fixups.{value_bytes}
+use Rattle.dt_source.specs.TreeMeaning.Fixups.{value_bytes}
 use Rattle.dt_live.specs.Rows.{node_path}
 use Rattle.dt_build.specs.Private.Made.{all_phandles}
 use Rattle.dt_build.specs.Private.Values.{founds_of}

@@ -1,6 +1,6 @@
 use Rattle.std.proofs.Common.{◌≡◌, ◌+◌, ◌++◌, ◌∷◌, [], drop, sym, ap, ◌∙◌}
 use Rattle.dt_tree.specs.NodeData.{siblings}
-use Rattle.dt_meaning.specs.Edits.{with_node}
+use Rattle.dt_source.specs.TreeMeaning.Edits.{with_node}
 use Rattle.dt_live.specs.Rows.{node_path, state_of}
 use Rattle.dt_live.specs.Flattened.{lists}
 use Rattle.dt_live.specs.Private.Flattening.{with_values, with_siblings, with_tree}

@@ -1,6 +1,6 @@
 use Rattle.std.proofs.Common.{◌≡◌, ap, ap₂, ◌∙◌, [], subst}
 use Rattle.dt_tree.specs.Sound.{IsSound}
-use Rattle.dt_tree_builder.specs.Lists.{lists_of}
+use Rattle.dt_live.specs.Builder.Lists.{lists_of}
 use Rattle.dt_live.specs.Flattened.{lists}
 use Rattle.dt_live.specs.Private.Flattening.{with_tree}
 use Rattle.dt_live.proofs.Behind.{tree-listed}

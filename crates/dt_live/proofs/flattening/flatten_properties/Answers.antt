@@ -1,5 +1,5 @@
 use Rattle.std.proofs.Common.{◌+◌, drop, sym, ap, ◌∙◌}
-use Rattle.dt_meaning.specs.Edits.{with_property}
+use Rattle.dt_source.specs.TreeMeaning.Edits.{with_property}
 use Rattle.dt_live.specs.Rows.{path_of, node_path, state_of}
 use Rattle.dt_live.specs.Private.Flattening.{with_values}
 use Rattle.dt_live.proofs.Steps.{values-left, property-more}

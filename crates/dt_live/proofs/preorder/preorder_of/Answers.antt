@@ -1,7 +1,7 @@
 use Rattle.std.proofs.Common.{◌≡◌, sym, subst, length, map, refl, ap, ap₂, ◌∙◌, arith}
 use Rattle.std.specs.List.{flat_map}
 use Rattle.dt_tree.specs.declared.limits.TheConstants.{MAX_DEPTH}
-use Rattle.dt_meaning.specs.References.{held}
+use Rattle.dt_source.specs.TreeMeaning.References.{held}
 use Rattle.dt_live.specs.Index.{row_of}
 use Rattle.dt_live.specs.Rows.{path_of, stands, standing_properties, property_at}
 use Rattle.dt_live.specs.Private.Walks.{children_to, node_property_at, properties_to, rows_walk}

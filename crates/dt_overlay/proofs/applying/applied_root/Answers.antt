@@ -1,5 +1,5 @@
 use Rattle.dt_live.specs.Flattened.{lists}
-use Rattle.dt_fixup.specs.PatchedOverlay.{patched_lists}
+use Rattle.dt_overlay.specs.Fixup.PatchedOverlay.{patched_lists}
 use Rattle.dt_overlay.proofs.ApplySteps.{match-all, shift-fault}
 use Rattle.dt_overlay.proofs.applying.applied_root.Goals as goal
 

@@ -1,6 +1,6 @@
 use Rattle.std.proofs.Common.{List, Option, ℕ, sym, subst}
-use Rattle.dt_overlay_meaning.specs.Shifted.{fragments}
-use Rattle.dt_fixup.specs.PatchedOverlay.{patched_lists}
+use Rattle.dt_source.specs.OverlayMeaning.Shifted.{fragments}
+use Rattle.dt_overlay.specs.Fixup.PatchedOverlay.{patched_lists}
 use Rattle.dt_overlay.specs.declared.fragments.Fragment.{Fragment}
 use Rattle.dt_overlay.specs.Private.Fragments.{AreFragments}
 use Rattle.dt_overlay.specs.Private.SymbolTargets.{AreTargets}

@@ -2,7 +2,7 @@ use Rattle.std.proofs.Common.{◌≡◌, List, Option, true, map, Vec, Global, a
 use Rattle.std.specs.Prelude.{All}
 use Rattle.dt_tree.specs.Name.{is_name}
 use Rattle.dt_live.specs.Flattened.{lists}
-use Rattle.dt_fixup.specs.PatchedOverlay.{patched_lists}
+use Rattle.dt_overlay.specs.Fixup.PatchedOverlay.{patched_lists}
 use Rattle.dt_overlay.specs.declared.symbols.Symbol.{Symbol}
 use Rattle.dt_overlay.specs.Private.Additions.{AreSymbols}
 use Rattle.dt_overlay.specs.Private.Symbols.{applied_over, symbol_value, symbols_of}

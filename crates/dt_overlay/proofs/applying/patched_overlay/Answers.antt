@@ -1,10 +1,10 @@
 use Rattle.std.proofs.Common.{◌≡◌, subst}
 use Rattle.std.specs.Prelude.{MatchResult, Ok}
-use Rattle.dt_meaning.specs.Resolved.{Resolved}
+use Rattle.dt_source.specs.TreeMeaning.Resolved.{Resolved}
 use Rattle.dt_live.specs.Flattened.{lists}
-use Rattle.dt_overlay_meaning.specs.Shifted.{shifted_overlay}
-use Rattle.dt_fixup.specs.OverlayFault.{IsFault}
-use Rattle.dt_fixup.specs.PatchedOverlay.{patched_lists}
+use Rattle.dt_source.specs.OverlayMeaning.Shifted.{shifted_overlay}
+use Rattle.dt_overlay.specs.Fixup.OverlayFault.{IsFault}
+use Rattle.dt_overlay.specs.Fixup.PatchedOverlay.{patched_lists}
 use Rattle.dt_overlay.proofs.applying.patched_overlay.Goals as goal
 
 pub returns-clause-patched : goal.returns-clause-patched

@@ -1,10 +1,10 @@
 use Rattle.std.proofs.Common.{List, suc, ◌+◌, ◌<◌, length, refl, sym, ap, ◌∙◌, subst, arith}
 use Rattle.std.specs.Prelude.{codes}
-use Rattle.dt_meaning.specs.MapOf.{value_in}
-use Rattle.dt_meaning.specs.Paths.{Path}
+use Rattle.dt_source.specs.TreeMeaning.MapOf.{value_in}
+use Rattle.dt_source.specs.TreeMeaning.Paths.{Path}
 use Rattle.dt_live.specs.Flattened.{lists}
-use Rattle.dt_fixup.specs.PatchedOverlay.{patched_lists}
-use Rattle.dt_overlay_meaning.specs.Applied.{target_by}
+use Rattle.dt_overlay.specs.Fixup.PatchedOverlay.{patched_lists}
+use Rattle.dt_source.specs.OverlayMeaning.Applied.{target_by}
 use Rattle.dt_overlay.specs.declared.fragments.Fragment.{Fragment}
 use Rattle.dt_overlay.specs.Private.Fragments.{IsFragment}
 use Rattle.dt_overlay.proofs.FragmentRows.{AreSoFar, all-found, row-found, row-skipped}

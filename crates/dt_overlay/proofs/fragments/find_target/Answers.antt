@@ -1,11 +1,11 @@
 use Rattle.std.proofs.Common.{◌≡◌, Some, None, sym, ap, ap₂, ◌∙◌}
 use Rattle.std.specs.Prelude.{codes}
-use Rattle.dt_meaning.specs.MapOf.{value_in}
+use Rattle.dt_source.specs.TreeMeaning.MapOf.{value_in}
 use Rattle.dt_live.specs.Rows.{node_path, property_of}
 use Rattle.dt_live.specs.Flattened.{lists}
-use Rattle.dt_fixup.specs.PatchedOverlay.{patched_lists, value_at}
-use Rattle.dt_fixup.proofs.LookUps.{value-none, value-some}
-use Rattle.dt_overlay_meaning.specs.Applied.{target_by}
+use Rattle.dt_overlay.specs.Fixup.PatchedOverlay.{patched_lists, value_at}
+use Rattle.dt_overlay.proofs.FixupLemmas.LookUps.{value-none, value-some}
+use Rattle.dt_source.specs.OverlayMeaning.Applied.{target_by}
 use Rattle.dt_overlay.proofs.FragmentRows.{phandle-target}
 use Rattle.dt_overlay.proofs.fragments.find_target.Goals as goal
 

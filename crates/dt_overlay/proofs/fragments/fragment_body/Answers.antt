@@ -1,6 +1,6 @@
 use Rattle.std.proofs.Common.{◌≡◌, ◌+◌, get_or, sym, ap, ◌∙◌}
 use Rattle.std.proofs.lemmas.List.{get_or_default}
-use Rattle.dt_meaning.specs.Names.{overlay_name}
+use Rattle.dt_source.specs.TreeMeaning.Names.{overlay_name}
 use Rattle.dt_live.specs.Rows.{child_of, no_row, row_at}
 use Rattle.dt_overlay.proofs.FragmentRows.{deep-fragment, top-fragment}
 use Rattle.dt_live.proofs.BlankRows.{blank_row}

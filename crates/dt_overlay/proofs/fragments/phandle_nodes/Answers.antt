@@ -2,7 +2,7 @@ use Rattle.std.proofs.Common.{◌≡◌, ℕ, ◌+◌, ◌<◌, length, sym, ap,
 use Rattle.std.specs.BTreeMap.{BTreeMap, get}
 use Rattle.std.specs.Ordering.{nat_cmp}
 use Rattle.dt_live.specs.Rows.{IsNode, node_path, property_at}
-use Rattle.dt_fixup.proofs.Phandles.{at-end}
+use Rattle.dt_overlay.proofs.FixupLemmas.Phandles.{at-end}
 use Rattle.dt_overlay.proofs.FragmentRows.{HasFirsts, firsts-all, firsts-put, firsts-same, nothing-found}
 use Rattle.dt_overlay.proofs.fragments.phandle_nodes.Goals as goal
 use Rattle.dt_overlay.proofs.fragments.phandle_nodes.Goals.{in-Some+in_ok-put_first, in_default}

@@ -1,9 +1,9 @@
 use Rattle.std.proofs.Common.{◌≡◌, sym, ap, ◌∙◌}
 use Rattle.dt_tree.specs.PathMap.{path_map}
-use Rattle.dt_meaning.specs.MapOf.{map_of}
-use Rattle.dt_tree_builder.specs.Builders.{built_lists}
-use Rattle.dt_tree_builder.proofs.Orders.{map-walked}
-use Rattle.dt_tree_builder.proofs.MakingWalk.{ok-more}
+use Rattle.dt_source.specs.TreeMeaning.MapOf.{map_of}
+use Rattle.dt_live.specs.Builder.Builders.{built_lists}
+use Rattle.dt_live.proofs.BuilderLemmas.Orders.{map-walked}
+use Rattle.dt_live.proofs.BuilderLemmas.MakingWalk.{ok-more}
 use Rattle.dt_live.specs.Flattened.{lists}
 use Rattle.dt_overlay.proofs.MakingOrder.{all-rest, in-preorder}
 use Rattle.dt_overlay.proofs.making.make.Goals as goal

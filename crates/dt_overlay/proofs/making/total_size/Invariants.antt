@@ -1,5 +1,5 @@
 use Rattle.std.proofs.Common.{◌≡◌, ◌+◌, ◌-◌, ◌^◌, ◌≤◌, drop, map, min}
-use Rattle.dt_tree_builder.specs.Sizes.{size_in}
+use Rattle.dt_live.specs.Builder.Sizes.{size_in}
 use Rattle.dt_live.specs.ByRow.{defined_by}
 use Rattle.dt_overlay.proofs.making.total_size.Given as goal
 

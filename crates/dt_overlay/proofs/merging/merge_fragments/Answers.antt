@@ -4,9 +4,9 @@ use Rattle.dt_live.specs.Rows.{node_path}
 use Rattle.dt_live.proofs.Keeping.{kept-itself, kept-then}
 use Rattle.dt_live.specs.Flattened.{lists}
 use Rattle.dt_live.proofs.WholeTrees.{whole-all, whole-bare, whole-rows}
-use Rattle.dt_fixup.specs.PatchedOverlay.{patched_lists}
+use Rattle.dt_overlay.specs.Fixup.PatchedOverlay.{patched_lists}
 use Rattle.dt_tree.specs.Steps.{then_do, fold}
-use Rattle.dt_overlay_meaning.specs.Shifted.{fragments}
+use Rattle.dt_source.specs.OverlayMeaning.Shifted.{fragments}
 use Rattle.dt_overlay.proofs.Lawful.{merged-at-lawful, patched-lawful, whole-lawful}
 use Rattle.dt_overlay.proofs.Folded.{drop-end, fault-then, fold-left, folded, fragment-at, get_or-itself, merged_one, mergeable, one-merged, same-room, target-named, unread}
 use Rattle.dt_overlay.proofs.merging.merge_fragments.Goals as goal

@@ -3,10 +3,10 @@ use Rattle.std.specs.List.{list_any}
 use Rattle.dt_live.specs.declared.live_tree.NodeRow.{NodeRow}
 use Rattle.dt_live.specs.Rows.{IsGrown, node_path}
 use Rattle.dt_live.proofs.Keeping.{kept-itself, kept-then}
-use Rattle.dt_meaning.specs.Resolved.{is_too_deep}
+use Rattle.dt_source.specs.TreeMeaning.Resolved.{is_too_deep}
 use Rattle.std.proofs.lemmas.List.{length-set}
 use Rattle.dt_live.specs.Flattened.{lists, plain}
-use Rattle.dt_overlay_meaning.specs.Applied.{moved, with_nodes}
+use Rattle.dt_source.specs.OverlayMeaning.Applied.{moved, with_nodes}
 use Rattle.dt_overlay.specs.Private.Merging.{IsInside, IsPart}
 use Rattle.dt_overlay.proofs.PartLists.{nodes-start, nodes-end}
 use Rattle.dt_live.proofs.BlankRows.{blank_row}

@@ -2,10 +2,10 @@ use Rattle.std.proofs.Common.{◌≡◌, ◌<◌, ◌≤◌, ◌||◌, length, s
 use Rattle.std.specs.List.{list_any}
 use Rattle.dt_live.specs.ByRow.{KeepsRows}
 use Rattle.dt_live.specs.Rows.{IsLiveTree, node_path, state_of}
-use Rattle.dt_meaning.specs.Resolved.{is_too_deep}
+use Rattle.dt_source.specs.TreeMeaning.Resolved.{is_too_deep}
 use Rattle.dt_live.specs.Flattened.{lists}
-use Rattle.dt_fixup.specs.PatchedOverlay.{patched_lists}
-use Rattle.dt_overlay_meaning.specs.Applied.{with_nodes}
+use Rattle.dt_overlay.specs.Fixup.PatchedOverlay.{patched_lists}
+use Rattle.dt_source.specs.OverlayMeaning.Applied.{with_nodes}
 use Rattle.dt_overlay.specs.Private.Merging.{AreKept, AreBaseNodes, IsInside, part_below}
 use Rattle.dt_overlay.proofs.PartLists.{nodes_left}
 use Rattle.dt_overlay.proofs.part.define_nodes.Given as goal

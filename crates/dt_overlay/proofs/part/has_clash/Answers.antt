@@ -2,7 +2,7 @@ use Rattle.std.proofs.Common.{◌≡◌, true, slice_index_or, sym, ap, ◌∙�
 use Rattle.std.specs.List.{list_any}
 use Rattle.dt_live.specs.Rows.{node_path, property_at}
 use Rattle.dt_live.specs.Flattened.{lists}
-use Rattle.dt_overlay_meaning.specs.Applied.{clashes}
+use Rattle.dt_source.specs.OverlayMeaning.Applied.{clashes}
 use Rattle.dt_overlay.proofs.PartLists.{values-start, values-end, values_left}
 use Rattle.dt_overlay.proofs.PartValues.{clash-step, first-last, known-node}
 use Rattle.dt_overlay.proofs.part.has_clash.Goals as goal

@@ -2,8 +2,8 @@ use Rattle.std.proofs.Common.{◌≡◌, ◌≤◌, slice_index_or}
 use Rattle.std.specs.List.{list_any}
 use Rattle.dt_live.specs.Rows.{node_path}
 use Rattle.dt_live.specs.Flattened.{lists}
-use Rattle.dt_fixup.specs.PatchedOverlay.{patched_lists}
-use Rattle.dt_overlay_meaning.specs.Applied.{clashes}
+use Rattle.dt_overlay.specs.Fixup.PatchedOverlay.{patched_lists}
+use Rattle.dt_source.specs.OverlayMeaning.Applied.{clashes}
 use Rattle.dt_overlay.specs.Private.Merging.{part_below}
 use Rattle.dt_overlay.proofs.PartLists.{values_left}
 use Rattle.dt_overlay.proofs.part.has_clash.Given as goal

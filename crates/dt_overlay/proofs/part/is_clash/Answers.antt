@@ -1,7 +1,7 @@
 use Rattle.std.proofs.Common.{◌≡◌, ◌&&◌, true, false, is_some, refl, sym, ap, ◌∙◌}
 use Rattle.std.specs.Prelude.{codes}
 use Rattle.std.specs.Str.{bytes_eq}
-use Rattle.dt_meaning.specs.MapOf.{value_in}
+use Rattle.dt_source.specs.TreeMeaning.MapOf.{value_in}
 use Rattle.dt_live.specs.Rows.{node_path, property_of}
 use Rattle.dt_live.specs.Flattened.{lists}
 use Rattle.dt_overlay.proofs.Clashes.{look-up}

@@ -1,7 +1,7 @@
 use Rattle.std.proofs.Common.{◌≡◌, slice_index_or, refl, sym, ap, ◌∙◌, arith}
 use Rattle.dt_live.specs.Rows.{node_path, property_at}
 use Rattle.dt_live.specs.Flattened.{lists}
-use Rattle.dt_overlay_meaning.specs.Applied.{with_values}
+use Rattle.dt_source.specs.OverlayMeaning.Applied.{with_values}
 use Rattle.dt_overlay.proofs.PartLists.{values-start, values-end, values_left}
 use Rattle.dt_overlay.proofs.PartValues.{first-last, known-node, put-step}
 use Rattle.dt_overlay.proofs.part.set_properties.Goals as goal

@@ -2,8 +2,8 @@ use Rattle.std.proofs.Common.{◌≡◌, ◌≤◌, slice_index_or}
 use Rattle.dt_live.specs.ByRow.{KeepsRows}
 use Rattle.dt_live.specs.Rows.{HasSameNodes, IsLiveTree, node_path, state_of}
 use Rattle.dt_live.specs.Flattened.{lists}
-use Rattle.dt_fixup.specs.PatchedOverlay.{patched_lists}
-use Rattle.dt_overlay_meaning.specs.Applied.{with_values}
+use Rattle.dt_overlay.specs.Fixup.PatchedOverlay.{patched_lists}
+use Rattle.dt_source.specs.OverlayMeaning.Applied.{with_values}
 use Rattle.dt_overlay.specs.Private.Merging.{part_below}
 use Rattle.dt_overlay.proofs.PartLists.{values_left}
 use Rattle.dt_overlay.proofs.part.set_properties.Given as goal

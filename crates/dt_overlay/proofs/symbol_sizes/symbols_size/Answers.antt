@@ -1,6 +1,6 @@
 use Rattle.std.proofs.Common.{◌≡◌, ◌<◌, [], ◌∷◌, length, sym, ap, ap₂, ◌∙◌, arith}
-use Rattle.dt_meaning.specs.Names.{symbols_name}
-use Rattle.dt_meaning.specs.Paths.{same_path}
+use Rattle.dt_source.specs.TreeMeaning.Names.{symbols_name}
+use Rattle.dt_source.specs.TreeMeaning.Paths.{same_path}
 use Rattle.dt_live.specs.Rows.{path_of, property_at}
 use Rattle.dt_live.specs.Flattened.{lists}
 use Rattle.dt_overlay.proofs.SymbolLengths.{size-more, size-same}

@@ -1,7 +1,7 @@
 use Rattle.std.proofs.Common.{◌≡◌, ◌+◌, ◌-◌, ◌^◌, ◌≤◌, drop, min}
-use Rattle.dt_tree_builder.specs.Sizes.{size_in}
+use Rattle.dt_live.specs.Builder.Sizes.{size_in}
 use Rattle.dt_live.specs.Flattened.{lists}
-use Rattle.dt_fixup.specs.PatchedOverlay.{patched_lists}
+use Rattle.dt_overlay.specs.Fixup.PatchedOverlay.{patched_lists}
 use Rattle.dt_overlay.specs.Private.Symbols.{symbols_of}
 use Rattle.dt_overlay.proofs.SymbolLengths.{symbols_from}
 use Rattle.dt_overlay.proofs.symbol_sizes.symbols_size.Given as goal

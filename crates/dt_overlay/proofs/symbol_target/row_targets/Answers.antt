@@ -1,7 +1,7 @@
 use Rattle.std.proofs.Common.{◌≡◌, ◌+◌, ◌-◌, [], ◌<◌, length, None, sym, ap, ◌∙◌, subst, length-append, arith}
 use Rattle.dt_live.specs.Rows.{node_path}
 use Rattle.dt_live.specs.Flattened.{lists}
-use Rattle.dt_overlay_meaning.specs.Shifted.{fragment_at}
+use Rattle.dt_source.specs.OverlayMeaning.Shifted.{fragment_at}
 use Rattle.dt_overlay.specs.Private.SymbolTargets.{IsRowTarget}
 use Rattle.dt_overlay.proofs.SymbolRows.{AreLeft, first-more, found-body_node, left-none, left-some, missed-body_node, row-none, target-some}
 use Rattle.dt_overlay.proofs.symbol_target.row_targets.Goals as goal

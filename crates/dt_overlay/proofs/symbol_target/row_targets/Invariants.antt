@@ -1,8 +1,8 @@
 use Rattle.std.proofs.Common.{◌≡◌, ◌≤◌, length}
 use Rattle.dt_live.specs.declared.live_tree.LiveTree.{LiveTree}
 use Rattle.dt_live.specs.Flattened.{Lent}
-use Rattle.dt_fixup.specs.PatchedOverlay.{patched_lists}
-use Rattle.dt_overlay_meaning.specs.Shifted.{fragments}
+use Rattle.dt_overlay.specs.Fixup.PatchedOverlay.{patched_lists}
+use Rattle.dt_source.specs.OverlayMeaning.Shifted.{fragments}
 use Rattle.dt_overlay.specs.Private.Fragments.{AreFragments}
 use Rattle.dt_overlay.proofs.SymbolRows.{AreFirst, AreLeft}
 use Rattle.dt_overlay.proofs.symbol_target.row_targets.Given as goal

@@ -1,8 +1,8 @@
 use Rattle.std.proofs.Common.{rules, ◌-◌, ◌<◌, length, sym, arith}
 use Rattle.dt_live.specs.Flattened.{lists}
-use Rattle.dt_overlay_meaning.specs.Applied.{symbol_path}
-use Rattle.dt_overlay_meaning.specs.Texts.{ended_path}
-use Rattle.dt_fixup.specs.PatchedOverlay.{patched_lists}
+use Rattle.dt_source.specs.OverlayMeaning.Applied.{symbol_path}
+use Rattle.dt_source.specs.OverlayMeaning.Texts.{ended_path}
+use Rattle.dt_overlay.specs.Fixup.PatchedOverlay.{patched_lists}
 use Rattle.dt_overlay.proofs.SymbolLeads.{is-below, leads-none, leads-nowhere, leads-there, none-matches}
 use Rattle.dt_overlay.proofs.symbol_target.symbol_target.Goals as goal
 

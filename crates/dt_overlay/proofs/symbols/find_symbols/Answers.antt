@@ -1,10 +1,10 @@
 use Rattle.std.proofs.Common.{◌≡◌, ◌+◌, ◌<◌, true, All, IfSome, Option, List, [], ◌∷◌, ◌++◌, length, map, drop, Vec, Global, sym, ap, ap₂, ◌∙◌, subst, arith}
-use Rattle.dt_meaning.specs.Names.{symbols_name}
-use Rattle.dt_meaning.specs.Paths.{same_path}
+use Rattle.dt_source.specs.TreeMeaning.Names.{symbols_name}
+use Rattle.dt_source.specs.TreeMeaning.Paths.{same_path}
 use Rattle.dt_live.specs.Rows.{path_of, property_at}
 use Rattle.dt_live.specs.Flattened.{lists}
 use Rattle.dt_tree.specs.Name.{is_name}
-use Rattle.dt_fixup.specs.PatchedOverlay.{patched_lists}
+use Rattle.dt_overlay.specs.Fixup.PatchedOverlay.{patched_lists}
 use Rattle.dt_overlay.specs.declared.symbols.Symbol.{Symbol}
 use Rattle.dt_overlay.specs.Private.Symbols.{symbol_value, symbols_of, values_in}
 use Rattle.dt_overlay.proofs.SymbolLengths.{symbols_from}

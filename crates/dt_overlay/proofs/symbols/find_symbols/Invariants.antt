@@ -1,7 +1,7 @@
 use Rattle.std.proofs.Common.{◌≡◌, ◌++◌, true, All, map, drop}
 use Rattle.dt_tree.specs.Name.{is_name}
 use Rattle.dt_live.specs.Flattened.{lists}
-use Rattle.dt_fixup.specs.PatchedOverlay.{patched_lists}
+use Rattle.dt_overlay.specs.Fixup.PatchedOverlay.{patched_lists}
 use Rattle.dt_overlay.specs.Private.Symbols.{symbol_value, symbols_of}
 use Rattle.dt_overlay.proofs.SymbolLengths.{symbols_from}
 use Rattle.dt_overlay.proofs.symbols.find_symbols.Given as goal

@@ -1,7 +1,7 @@
 use Rattle.std.proofs.Common.{◌≡◌, [], ◌∷◌, ap, ◌∙◌, refl}
 use Rattle.dt_tree.specs.declared.property.Property.{Property}
-use Rattle.dt_meaning.specs.Edits as edits
-use Rattle.dt_meaning.specs.Names.{symbols_name}
+use Rattle.dt_source.specs.TreeMeaning.Edits as edits
+use Rattle.dt_source.specs.TreeMeaning.Names.{symbols_name}
 use Rattle.dt_live.specs.Rows.{node_path, state_of}
 use Rattle.dt_live.specs.Private.Flattening.{with_value}
 use Rattle.dt_live.specs.Flattened.{lists}

@@ -1,7 +1,7 @@
 use Rattle.std.proofs.Common.{Some, ap, sym, ◌∙◌, arith}
 use Rattle.std.proofs.lemmas.Result.{err_from_is_err_and}
 use Rattle.dt_tree.specs.Path.{path_names}
-use Rattle.dt_view.specs.Reaching.{before_node}
+use Rattle.dt_patch.specs.View.Reaching.{before_node}
 use Rattle.dt_patch.proofs.Cuts.{node_in}
 use Rattle.dt_patch.proofs.Found.{bad_child, deep_child, isnt_grown, known_child, new_child}
 use Rattle.dt_patch.proofs.adding.growth_span.Goals as goal

@@ -1,7 +1,7 @@
 use Rattle.std.proofs.Common.{sym}
 use Rattle.std.proofs.lemmas.Result.{err_from_is_err_and}
 use Rattle.dt_tree.specs.Path.{path_names}
-use Rattle.dt_view.specs.Reaching.{before_node}
+use Rattle.dt_patch.specs.View.Reaching.{before_node}
 use Rattle.dt_patch.proofs.Found.{no_property, no_value}
 use Rattle.dt_patch.proofs.placing.property_place.Goals as goal
 

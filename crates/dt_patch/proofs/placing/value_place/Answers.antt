@@ -1,6 +1,6 @@
 use Rattle.std.proofs.Common.{◌≡◌, ℕ, false, true, Some, None, ap, sym, ◌∙◌, arith}
 use Rattle.std.proofs.lemmas.Result.{err_from_is_err_and}
-use Rattle.dt_view.specs.Reserved.{reserved_size}
+use Rattle.dt_patch.specs.View.Reserved.{reserved_size}
 use Rattle.dt_patch.specs.Order.{is_ordered}
 use Rattle.dt_patch.specs.Setting.{value_fault}
 use Rattle.dt_patch.proofs.Found.{by_length, same_length, then_ordered, then_unordered, told_first}

@@ -1,7 +1,7 @@
 use Rattle.std.proofs.Common.{Result, Ok, Err, IsOkAnd, MatchResult, [], sym, ◌∙◌, arith}
 use Rattle.std.proofs.lemmas.Result.{err_from_is_err_and}
 use Rattle.dt_tree.specs.Path.{path_names}
-use Rattle.dt_view.specs.Reaching.{before_node}
+use Rattle.dt_patch.specs.View.Reaching.{before_node}
 use Rattle.dt_patch.proofs.Found.{no_place}
 use Rattle.dt_patch.proofs.Sets.{set_new, set_there}
 use Rattle.dt_patch.proofs.planning.set_span.Goals as goal

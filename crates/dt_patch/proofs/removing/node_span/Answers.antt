@@ -1,7 +1,7 @@
 use Rattle.std.proofs.Common.{arith}
 use Rattle.std.proofs.lemmas.Result.{err_from_is_err_and}
 use Rattle.dt_tree.specs.Path.{path_names}
-use Rattle.dt_view.specs.Reaching.{before_node}
+use Rattle.dt_patch.specs.View.Reaching.{before_node}
 use Rattle.dt_patch.proofs.Cuts.{node_out}
 use Rattle.dt_patch.proofs.Found.{is_removed, is_root, isnt_removed}
 use Rattle.dt_patch.proofs.Slashes.{one_byte, some_names}

@@ -2,17 +2,17 @@ use Rattle.std.proofs.Common.{◌≡◌, ◌<◌, ◌≤◌, ◌-◌, ◌++◌, 
 use Rattle.std.specs.Prelude.{map, option_map}
 use Rattle.std.proofs.lemmas.Result.{err_from_is_err_and}
 use Rattle.std.proofs.lemmas.List.{map_push, take_rest}
-use Rattle.dt_lexeme.specs.declared.language.Language.{Language}
-use Rattle.dt_lexeme.specs.declared.lexeme.Lexeme.{Lexeme}
-use Rattle.dt_lexeme.specs.declared.lexeme.Fault.{Fault}
-use Rattle.dt_lexeme.specs.declared.lexeme.Kind.{Kind}
-use Rattle.dt_lexeme.specs.declared.lexeme.Kind.TheVariants.{Name, Equals, Brace}
-use Rattle.dt_lexeme.specs.declared.lexeme.ReadError.{ReadError}
-use Rattle.dt_lexeme.specs.declared.lexeme.ReadError.TheVariants as errors
-use Rattle.dt_expression.specs.Reading.{◌>>=◌}
+use Rattle.dt_text.specs.declared.lexeme.language.Language.{Language}
+use Rattle.dt_text.specs.declared.lexeme.lexeme.Lexeme.{Lexeme}
+use Rattle.dt_text.specs.declared.lexeme.lexeme.Fault.{Fault}
+use Rattle.dt_text.specs.declared.lexeme.lexeme.Kind.{Kind}
+use Rattle.dt_text.specs.declared.lexeme.lexeme.Kind.TheVariants.{Name, Equals, Brace}
+use Rattle.dt_text.specs.declared.lexeme.lexeme.ReadError.{ReadError}
+use Rattle.dt_text.specs.declared.lexeme.lexeme.ReadError.TheVariants as errors
+use Rattle.dt_text.specs.Expression.Reading.{◌>>=◌}
 use Rattle.dt_source.specs.declared.tree.Statement.{Statement}
 use Rattle.dt_source.specs.Reading.Several.{Fails}
-use Rattle.dt_meaning.specs.Syntax.{Piece, Entry, Defines, Child, body_of}
+use Rattle.dt_source.specs.TreeMeaning.Syntax.{Piece, Entry, Defines, Child, body_of}
 use Rattle.dt_source.specs.Tree.{view}
 use Rattle.dt_source.specs.Marks.{omits, labels_in}
 use Rattle.dt_source.specs.Words.{label_bytes, name_bytes}

@@ -1,8 +1,8 @@
 use Rattle.std.proofs.Common.{◌≡◌, ◌≤◌, ℕ, List, [], ◌∷◌, length, get_or, Err, refl, arith}
-use Rattle.dt_lexeme.specs.declared.lexeme.Lexeme.{Lexeme}
-use Rattle.dt_lexeme.specs.declared.lexeme.Kind.{Kind}
-use Rattle.dt_lexeme.specs.declared.lexeme.Kind.TheVariants.{EndSquare, Pair, Label}
-use Rattle.dt_expression.specs.Reading.{syntax_at}
+use Rattle.dt_text.specs.declared.lexeme.lexeme.Lexeme.{Lexeme}
+use Rattle.dt_text.specs.declared.lexeme.lexeme.Kind.{Kind}
+use Rattle.dt_text.specs.declared.lexeme.lexeme.Kind.TheVariants.{EndSquare, Pair, Label}
+use Rattle.dt_text.specs.Expression.Reading.{syntax_at}
 use Rattle.dt_source.specs.Reading.Bodies.{pair_by, pair_at}
 use Rattle.dt_source.proofs.cells.pair_in.Goals as goal
 

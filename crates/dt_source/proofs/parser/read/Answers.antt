@@ -1,5 +1,5 @@
 use Rattle.std.proofs.Common.{Option, ℕ, subst}
-use Rattle.dt_lexeme.specs.Lexemes.{Scanned}
+use Rattle.dt_text.specs.Lexeme.Lexemes.{Scanned}
 use Rattle.dt_source.proofs.Parsing.{is_found, is_refused}
 use Rattle.dt_source.proofs.SpelledSources.{sources_are_spelled, sources_are_read}
 use Rattle.dt_source.proofs.SourceOrder.{in_order}

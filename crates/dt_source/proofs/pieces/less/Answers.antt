@@ -1,11 +1,11 @@
 use Rattle.std.proofs.Common.{◌≡◌, ◌≤◌, ◌-◌, ℕ, List, [], ◌∷◌, length, get_or, take, drop, Option, Err, refl, sym, ap, ◌∙◌, arith}
 use Rattle.std.proofs.lemmas.List.{take_rest}
-use Rattle.dt_lexeme.specs.declared.lexeme.Lexeme.{Lexeme}
-use Rattle.dt_lexeme.specs.declared.lexeme.Fault.{Fault}
-use Rattle.dt_lexeme.specs.declared.lexeme.Kind.{Kind}
-use Rattle.dt_lexeme.specs.declared.lexeme.Kind.TheVariants.{Less}
-use Rattle.dt_expression.specs.Reading.{syntax_at}
-use Rattle.dt_expression.specs.declared.elements.Width.{Width}
+use Rattle.dt_text.specs.declared.lexeme.lexeme.Lexeme.{Lexeme}
+use Rattle.dt_text.specs.declared.lexeme.lexeme.Fault.{Fault}
+use Rattle.dt_text.specs.declared.lexeme.lexeme.Kind.{Kind}
+use Rattle.dt_text.specs.declared.lexeme.lexeme.Kind.TheVariants.{Less}
+use Rattle.dt_text.specs.Expression.Reading.{syntax_at}
+use Rattle.dt_text.specs.declared.expression.elements.Width.{Width}
 use Rattle.dt_source.specs.Reading.Values.{built}
 use Rattle.dt_source.specs.Reading.Bodies.{cells_at, less_by, less_at}
 use Rattle.dt_source.specs.Reading.Loops.{into}

@@ -1,10 +1,10 @@
 use Rattle.std.proofs.Common.{◌≡◌, ◌≤◌, ◌-◌, ℕ, List, [], ◌∷◌, length, get_or, take, drop, Err, refl, sym, ap, ◌∙◌, arith}
 use Rattle.std.proofs.lemmas.List.{take_rest}
-use Rattle.dt_lexeme.specs.declared.language.Language.{Language}
-use Rattle.dt_lexeme.specs.declared.lexeme.Lexeme.{Lexeme}
-use Rattle.dt_lexeme.specs.declared.lexeme.Kind.{Kind}
-use Rattle.dt_lexeme.specs.declared.lexeme.Kind.TheVariants.{Text, Reference, PathReference, Square, Less, Bits, IncludeBinary}
-use Rattle.dt_expression.specs.Reading.{syntax_at}
+use Rattle.dt_text.specs.declared.lexeme.language.Language.{Language}
+use Rattle.dt_text.specs.declared.lexeme.lexeme.Lexeme.{Lexeme}
+use Rattle.dt_text.specs.declared.lexeme.lexeme.Kind.{Kind}
+use Rattle.dt_text.specs.declared.lexeme.lexeme.Kind.TheVariants.{Text, Reference, PathReference, Square, Less, Bits, IncludeBinary}
+use Rattle.dt_text.specs.Expression.Reading.{syntax_at}
 use Rattle.dt_source.specs.Reading.Bodies.{piece_by, piece_at}
 use Rattle.dt_source.proofs.pieces.piece.Goals as goal
 

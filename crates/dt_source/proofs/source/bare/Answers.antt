@@ -1,9 +1,9 @@
 use Rattle.std.proofs.Common.{◌≡◌, ℕ, List, ◌∷◌, Err, refl}
-use Rattle.dt_lexeme.specs.declared.language.Language.{Language}
-use Rattle.dt_lexeme.specs.declared.lexeme.Lexeme.{Lexeme}
-use Rattle.dt_lexeme.specs.declared.lexeme.Kind.{Kind}
-use Rattle.dt_lexeme.specs.declared.lexeme.Kind.TheVariants.{Slash, DeleteNode, OmitIfNoRef}
-use Rattle.dt_expression.specs.Reading.{syntax_at}
+use Rattle.dt_text.specs.declared.lexeme.language.Language.{Language}
+use Rattle.dt_text.specs.declared.lexeme.lexeme.Lexeme.{Lexeme}
+use Rattle.dt_text.specs.declared.lexeme.lexeme.Kind.{Kind}
+use Rattle.dt_text.specs.declared.lexeme.lexeme.Kind.TheVariants.{Slash, DeleteNode, OmitIfNoRef}
+use Rattle.dt_text.specs.Expression.Reading.{syntax_at}
 use Rattle.dt_source.specs.Reading.Whole.{bare_item}
 use Rattle.dt_source.proofs.source.bare.Goals as goal
 

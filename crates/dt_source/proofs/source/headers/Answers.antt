@@ -1,6 +1,6 @@
 use Rattle.std.proofs.Common.{None, Ok, Option, Bool, ◌∙◌, ap}
 use Rattle.std.proofs.lemmas.Result.{err_from_is_err_and}
-use Rattle.dt_lexeme.specs.declared.lexeme.Fault.{Fault}
+use Rattle.dt_text.specs.declared.lexeme.lexeme.Fault.{Fault}
 use Rattle.dt_source.specs.Reading.Whole.{headers_at}
 use Rattle.dt_source.proofs.SourceLoops.{headers_begin, headers_more, headers_end, headers_fail}
 use Rattle.dt_source.proofs.source.headers.Goals as goal

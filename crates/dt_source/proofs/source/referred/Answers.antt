@@ -1,9 +1,9 @@
 use Rattle.std.proofs.Common.{◌≡◌, ◌≤◌, ◌-◌, ◌⊎◌, inl, inr, ℕ, List, [], ◌∷◌, length, get_or, take, drop, None, Err, refl, sym, ap, ◌∙◌, arith}
 use Rattle.std.proofs.lemmas.List.{take_rest}
-use Rattle.dt_lexeme.specs.declared.lexeme.Lexeme.{Lexeme}
-use Rattle.dt_lexeme.specs.declared.lexeme.Kind.{Kind}
-use Rattle.dt_lexeme.specs.declared.lexeme.Kind.TheVariants.{Reference, PathReference}
-use Rattle.dt_expression.specs.Reading.{syntax_at}
+use Rattle.dt_text.specs.declared.lexeme.lexeme.Lexeme.{Lexeme}
+use Rattle.dt_text.specs.declared.lexeme.lexeme.Kind.{Kind}
+use Rattle.dt_text.specs.declared.lexeme.lexeme.Kind.TheVariants.{Reference, PathReference}
+use Rattle.dt_text.specs.Expression.Reading.{syntax_at}
 use Rattle.dt_source.specs.Pieces.{target_of}
 use Rattle.dt_source.specs.Reading.Bodies.{ended_by}
 use Rattle.dt_source.specs.Reading.Whole.{referred_kind, referred_at}

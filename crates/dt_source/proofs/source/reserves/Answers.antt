@@ -1,6 +1,6 @@
 use Rattle.std.proofs.Common.{Ok, Option, ◌∙◌, ap}
 use Rattle.std.proofs.lemmas.Result.{err_from_is_err_and}
-use Rattle.dt_expression.specs.Values.{Value}
+use Rattle.dt_text.specs.Expression.Values.{Value}
 use Rattle.dt_source.specs.Reading.Whole.{reserves_at}
 use Rattle.dt_source.proofs.SourceLoops.{reserves_begin, reserves_more, reserves_end, reserves_fail}
 use Rattle.dt_source.proofs.source.reserves.Goals as goal

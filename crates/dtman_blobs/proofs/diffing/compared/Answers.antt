@@ -1,5 +1,5 @@
 use Rattle.std.proofs.Common.{length}
-use Rattle.dt_diff.specs.Comparison.{is_same}
+use Rattle.dtman_blobs.specs.Difference.Comparison.{is_same}
 use Rattle.dtman_blobs.proofs.SameLemmas.{both-same}
 use Rattle.dtman_blobs.proofs.diffing.compared.Goals as goal
 

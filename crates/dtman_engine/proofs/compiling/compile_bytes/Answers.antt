@@ -1,9 +1,9 @@
 -- One source fits a text, so what is answered of the one that was parsed is answered of what the text says.
 use Rattle.std.proofs.Common.{inl, MatchResult, ap, subst, ◌∙◌}
-use Rattle.dt_lexeme.specs.declared.language.Language.TheVariants.{Profile}
+use Rattle.dt_text.specs.declared.lexeme.language.Language.TheVariants.{Profile}
 use Rattle.dt_source.specs.Meaning.{meaning_of}
 use Rattle.dt_source.specs.Parse.{Refuses, Says}
-use Rattle.dt_meaning.specs.Syntax.{Meaning}
+use Rattle.dt_source.specs.TreeMeaning.Syntax.{Meaning}
 use Rattle.dtman_engine.specs.Compile.{CannotBuild, IsBlobOf, meant_by}
 use Rattle.dtman_engine.specs.Fault.{fault_value}
 use Rattle.dtman_engine.specs.SourceFaults.{source_fault}

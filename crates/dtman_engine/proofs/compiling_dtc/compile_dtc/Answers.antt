@@ -1,9 +1,9 @@
 -- One source fits a text, so what is answered of the one that was parsed is answered of what the text says.
 use Rattle.std.proofs.Common.{refl, ap, subst, ◌∙◌}
-use Rattle.dt_lexeme.specs.declared.language.Language.TheVariants.{Dtc}
+use Rattle.dt_text.specs.declared.lexeme.language.Language.TheVariants.{Dtc}
 use Rattle.dt_source.specs.Filled.{filled}
 use Rattle.dt_source.specs.Meaning.{meaning_of}
-use Rattle.dt_meaning.specs.Syntax.{Meaning}
+use Rattle.dt_source.specs.TreeMeaning.Syntax.{Meaning}
 use Rattle.dtman_engine.specs.CompileDtc.{AnswersFilled}
 use Rattle.dtman_engine.specs.SourceFaults.{source_fault}
 use Rattle.dtman_engine.proofs.CompileDtcLemmas.{compiled, in-vain, wanted}

@@ -1,8 +1,8 @@
 use Rattle.std.proofs.Common.{Result, sym, subst}
-use Rattle.dt_lexeme.specs.declared.lexeme.Refusal.{Refusal}
+use Rattle.dt_text.specs.declared.lexeme.lexeme.Refusal.{Refusal}
 use Rattle.dt_source.specs.Filled.{filled}
 use Rattle.dt_source.specs.Meaning.{meaning_of}
-use Rattle.dt_meaning.specs.Syntax.{Meaning}
+use Rattle.dt_source.specs.TreeMeaning.Syntax.{Meaning}
 use Rattle.dtman_engine.specs.CompileDtc.{AnswersFilled}
 use Rattle.dtman_engine.proofs.CompileDtcLemmas.{lacks}
 use Rattle.dtman_engine.proofs.compiling_dtc.compiled_with.Goals as goal

@@ -1,9 +1,9 @@
 -- The canonical source says what means the tree, and nothing that it says means another; the blob holds the tree, and no other.
 use Rattle.std.proofs.Common.{ap, false, ◌∙◌}
-use Rattle.dt_lexeme.specs.declared.language.Language.TheVariants.{Profile}
+use Rattle.dt_text.specs.declared.lexeme.language.Language.TheVariants.{Profile}
 use Rattle.dt_blob.specs.Blob.{blob_of}
 use Rattle.dt_blob.specs.SourceText.{text_of}
-use Rattle.dt_canonical.specs.SourceOf.{source_of}
+use Rattle.dtman_engine.specs.Canonical.SourceOf.{source_of}
 use Rattle.dtman_engine.proofs.CompileLemmas.{tree-of-meant}
 use Rattle.dtman_engine.proofs.LawLemmas.{dumped, uncompiled, undumped}
 use Rattle.dtman_engine.proofs.laws.blobs_come_back.Goals as goal

@@ -1,5 +1,5 @@
 -- A text says one thing at most, and bytes hold one tree at most.
-use Rattle.dt_lexeme.specs.declared.language.Language.TheVariants.{Dtc, Profile}
+use Rattle.dt_text.specs.declared.lexeme.language.Language.TheVariants.{Dtc, Profile}
 use Rattle.dtman_engine.proofs.OneAnswers.{compiled-once, dumped-once, overlaid-once}
 use Rattle.dtman_engine.proofs.OneDtc.{compiled_dtc-once}
 use Rattle.dtman_engine.proofs.laws.one_answer.Goals as goal

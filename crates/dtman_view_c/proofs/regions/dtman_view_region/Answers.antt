@@ -1,5 +1,5 @@
 use Rattle.std.proofs.Common.{◌≡◌, Option, Some, refl, subst}
-use Rattle.dt_view.specs.declared.regions.Region.{Region}
+use Rattle.dt_patch.specs.declared.view.regions.Region.{Region}
 use Rattle.dtman_view_c.specs.declared.told.ViewTold.{ViewTold}
 use Rattle.dtman_view_c.specs.Parts.{IsGiven}
 use Rattle.dtman_view_c.proofs.regions.dtman_view_region.Goals as goal

@@ -1,6 +1,6 @@
 use Rattle.std.proofs.Common.{◌≡◌, ℕ, length, Ok, ap, ◌∙◌}
 use Rattle.std.specs.Prelude.{Result}
-use Rattle.dt_view.specs.declared.error.ViewError.{ViewError}
+use Rattle.dt_patch.specs.declared.view.error.ViewError.{ViewError}
 use Rattle.dtman_view_c.specs.Told.{done}
 use Rattle.dtman_view_c.proofs.walking.dtman_view_depth.Goals as goal
 

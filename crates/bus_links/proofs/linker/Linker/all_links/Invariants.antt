@@ -1,5 +1,5 @@
 use Rattle.std.proofs.Common.{◌≡◌, ◌++◌, drop}
-use Rattle.bus_bindings.specs.BindingView.{is_strict}
+use Rattle.bus_links.specs.Bindings.BindingView.{is_strict}
 use Rattle.bus_links.specs.Links.{links_from, warnings_from}
 use Rattle.bus_links.proofs.linker.Linker.all_links.Given as goal
 

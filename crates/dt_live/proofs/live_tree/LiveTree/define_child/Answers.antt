@@ -1,6 +1,6 @@
 use Rattle.std.proofs.Common.{◌≡◌, ◌==◌, not, ◌+◌, ◌++◌, ◌∷◌, [], suc, List, false, length, refl, sym, ap, ◌∙◌, subst, arith, rules}
 use Rattle.std.proofs.lemmas.List.{length_push}
-use Rattle.dt_meaning.specs.Edits.{with_node}
+use Rattle.dt_source.specs.TreeMeaning.Edits.{with_node}
 use Rattle.dt_live.specs.declared.live_tree.NodeRow.{NodeRow}
 use Rattle.dt_live.specs.declared.index.IndexEntry.{IndexEntry}
 use Rattle.dt_live.specs.ByRow.{have_all_rows}

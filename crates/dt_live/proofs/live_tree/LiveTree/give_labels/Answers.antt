@@ -1,8 +1,8 @@
 use Rattle.std.proofs.Common.{◌≡◌, ◌+◌, ◌∙◌, List, [], ℕ, Bor, Ok, map, get_or, drop, refl, sym, ap}
 use Rattle.std.proofs.lemmas.List.{at_drop_more, at_drop_all}
 use Rattle.dt_tree.specs.Steps.{then_do}
-use Rattle.dt_meaning.specs.Edits.{label_path}
-use Rattle.dt_meaning.specs.Statements.{give_label, give_labels}
+use Rattle.dt_source.specs.TreeMeaning.Edits.{label_path}
+use Rattle.dt_source.specs.TreeMeaning.Statements.{give_label, give_labels}
 use Rattle.dt_live.specs.declared.live_tree.NodeRow.{NodeRow}
 use Rattle.dt_live.specs.Rows.{node_path, path_of, state_of}
 use Rattle.dt_live.proofs.live_tree.LiveTree.give_labels.Goals as goal

@@ -1,5 +1,5 @@
 use Rattle.std.proofs.Common.{◌≡◌, map, drop}
-use Rattle.dt_meaning.specs.Statements.{give_labels}
+use Rattle.dt_source.specs.TreeMeaning.Statements.{give_labels}
 use Rattle.dt_live.specs.Rows.{HasSameChildStamps, HasSameNodes, HasSamePropertyStamps, IsLiveTree, node_path, state_of}
 use Rattle.dt_live.proofs.live_tree.LiveTree.give_labels.Given as goal
 

@@ -1,9 +1,9 @@
 use Rattle.std.proofs.Common.{◌≡◌, ◌-◌, ◌++◌, ◌∷◌, [], suc, slice_set, None, true, if◌then◌else◌, refl, sym, ap, ap₂, ◌∙◌, subst, arith, rules}
 use Rattle.std.proofs.lemmas.List.{get_or_default}
-use Rattle.dt_meaning.specs.Edits.{without_node}
+use Rattle.dt_source.specs.TreeMeaning.Edits.{without_node}
 use Rattle.dt_live.specs.declared.live_tree.NodeRow.{NodeRow}
 use Rattle.dt_live.specs.Index.{row_of, is_key}
-use Rattle.dt_meaning.specs.Paths.{Path}
+use Rattle.dt_source.specs.TreeMeaning.Paths.{Path}
 use Rattle.dt_live.specs.Rows.{Found, AreTables, Taken, no_row, row_at, path_of, state_in}
 use Rattle.dt_live.proofs.Keeping.{kept-marked, kept-itself}
 use Rattle.dt_live.proofs.NodeRows.{node-removed, not-listed, child-of, unlisted}

@@ -1,8 +1,8 @@
 use Rattle.std.proofs.Common.{◌≡◌, ◌-◌, ◌<◌, ◌++◌, ◌∷◌, [], suc, not, length, sym, ap, ◌∙◌, subst, arith}
 use Rattle.std.proofs.lemmas.Bool.{and_parts}
 use Rattle.std.proofs.lemmas.List.{get_or_default}
-use Rattle.dt_meaning.specs.Edits.{without_node}
-use Rattle.dt_meaning.specs.Paths.{Path}
+use Rattle.dt_source.specs.TreeMeaning.Edits.{without_node}
+use Rattle.dt_source.specs.TreeMeaning.Paths.{Path}
 use Rattle.dt_live.specs.Rows.{Taken, no_row, row_at, path_of, stands, state_of}
 use Rattle.dt_live.proofs.Climbs.{path-step, stands-step}
 use Rattle.dt_live.proofs.live_tree.LiveTree.remove_node.Goals as goal

@@ -1,5 +1,5 @@
 use Rattle.std.proofs.Common.{ℕ, ◌≤◌, map, sym, subst}
-use Rattle.dt_lexeme.specs.Limits.{text_limit}
+use Rattle.dt_text.specs.Lexeme.Limits.{text_limit}
 use Rattle.dt_source.specs.Tree.{item_view}
 use Rattle.dt_source.proofs.FilledSources.{items_lawful, items_many}
 use Rattle.dt_source.proofs.tree.Source.fill.Goals as goal

@@ -1,3 +1,0 @@
-mod FoundLemmas
-mod InterruptLemmas
-mod WalkLemmas

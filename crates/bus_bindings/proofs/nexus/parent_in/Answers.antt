@@ -1,7 +1,0 @@
-use Rattle.std.proofs.Common.{arith}
-use Rattle.bus_bindings.specs.Interrupts.{most_bytes}
-use Rattle.bus_bindings.proofs.nexus.parent_in.Goals as goal
-
-pub returns-clause-small : goal.returns-clause-small
-unfolding most_bytes
-returns-clause-small c = omega (arith, c.if-bytes-most_bytes.false, c.most_bytes.ensures)

@@ -1,9 +1,0 @@
-//! Driver files out of what an installation of Linux says of its modules.
-#![tactic(auto)]
-
-mod alias;
-mod modules;
-mod reading;
-
-pub use modules::{ModuleDrivers, Unsaid};
-pub use reading::{Origin, module_drivers};

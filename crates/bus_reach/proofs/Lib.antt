@@ -1,6 +1,0 @@
-pub mod InLemmas
-pub mod TakesLemmas
-mod WalkLemmas
-mod StampLemmas
-mod ClassLemmas
-mod GivenLemmas

@@ -1,5 +1,0 @@
-pub mod TimesLemmas
-mod WalkLemmas
-mod HoldLemmas
-mod FollowLemmas
-mod ListedLemmas

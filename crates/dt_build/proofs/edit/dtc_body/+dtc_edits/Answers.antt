@@ -1,0 +1,67 @@
+use Rattle.std.proofs.Common.{rules, ◌≡◌, ◌+◌, ◌<◌, ◌∷◌, drop, length, Result, sym, ap, ap₂, ◌∙◌, subst, add-one, arith}
+use Rattle.std.proofs.Math.Seq.{drop-cons}
+use Rattle.dt_source.specs.Tree.{view, views}
+use Rattle.dt_source.specs.TreeMeaning.Statements.{Fault}
+use Rattle.dt_source.specs.TreeMeaning.Syntax.{Child}
+use Rattle.dt_source.specs.TreeMeaning.DtcEdits.{DtcTree}
+use Rattle.dt_source.specs.TreeMeaning.DtcStatements.{dtc_body, dtc_entry, is_first}
+use Rattle.dt_live.specs.Placed.PlacedTrees.{child_path, node_path}
+use Rattle.dt_build.specs.Edit.EditFault.{Gives}
+use Rattle.dt_build.specs.Edit.Private.DtcEdited.{IsDtcEdited, dtc_child, placed_of}
+use Rattle.dt_build.proofs.EditLemmas.DtcSteps.{body-next, child-edited, edited-then, on-ok, same-path, still-there}
+use Rattle.dt_build.proofs.EditLemmas.Views.{view-child}
+use Rattle.dt_build.proofs.edit.dtc_body.+dtc_edits.Goals as goal
+
+pub edit_dtc-returns-in-Node-clause-step : goal.edit_dtc-returns-in-Node-clause-step
+edit_dtc-returns-in-Node-clause-step t c =
+    let first = c.args.first in
+    let p = node_path c.args.placed.now c.args.node in
+    let s = placed_of c.args.placed.now in
+    let omitted = c.in-Node.omit_if_no_ref in
+    let name = c.in-Node.name.now in
+    let same : dtc_entry (view c.args.statement.now) first p s ≡ dtc_entry (dtc_child omitted c.as_slice.result.now name c.as_slice-in-Node.result.now) first p s =
+    ap (λ x. dtc_entry (view x) first p s) c.in-Node.is ∙ ap (λ x. dtc_entry x first p s) (view-child c.in-Node.at omitted c.in-Node.labels c.in-Node.name c.in-Node.body)
+    ∙ ap₂ (λ ls ss. dtc_entry (Child omitted ls name (views ss)) first p s) (sym c.as_slice.ensures) (sym c.as_slice-in-Node.ensures.value) in
+    subst (λ (r : Result DtcTree Fault). Gives r (λ _. placed_of c.edit_dtc_child.new.placed) c.edit_dtc_child.result) (sym {A = Result DtcTree Fault} same) c.edit_dtc_child.ensures.step
+
+pub edit_dtc_body-edit_dtc-requires : goal.edit_dtc_body-edit_dtc-requires
+edit_dtc_body-edit_dtc-requires t c =
+    (search rules, still-there c.args.first c.args.node c.args.depth c.args.placed.now c.loop-statement.placed c.requires.place c.loop-statement.invariant.edited)
+
+pub edit_dtc_body-loop-statement-preserved : goal.edit_dtc_body-loop-statement-preserved
+edit_dtc_body-loop-statement-preserved t c =
+    let i = c.loop-statement.invariant in
+    let e = c.in_ok-edit_dtc.ensures in
+    let first = c.args.first in
+    let old = c.args.placed.now in
+    let live = c.loop-statement.placed in
+    let new = c.edit_dtc.new.placed in
+    let p = node_path old c.args.node in
+    let at = c.loop-statement.statement-index in
+    let body = c.args.body.now in
+    let within : at < length body = omega arith in
+    let next : drop at body ≡ c.statement-item.result ∷ drop (at + 1) body =
+    drop-cons body at c.statement-item.result within ∙ ap₂ (λ a n. a ∷ drop n body) (sym c.statement-item.is) (sym (add-one at)) in
+    record {
+      edited = edited-then first c.args.node old live new i.edited e.edited;
+      rest = body-next (view c.statement-item.result) (views (drop (at + 1) body)) first p (node_path live c.args.node) (placed_of live) (placed_of new) (dtc_body (views body) first p (placed_of old))
+          (same-path first c.args.node old live c.requires.place.standing i.edited)
+          (sym (ap (λ xs. dtc_body (views xs) first p (placed_of live)) next) ∙ i.rest)
+          e.step;
+    }
+
+pub edit_dtc_child-returns-clause-edited : goal.edit_dtc_child-returns-clause-edited
+edit_dtc_child-returns-clause-edited t c =
+    let first = c.args.first in
+    let node = c.args.node in
+    let a = c.args.placed.now in
+    let b = c.make_child.new.placed in
+    let d = c.dress_child.new.placed in
+    let e = c.edit_dtc_body.new.placed in
+    let made = c.in_ok-made.made in
+    let m = c.in_ok-made.ensures in
+    let r = c.in_ok-dress_child.ensures in
+    on-ok c.edit_dtc_body.result (IsDtcEdited made.begins made.node d e) (IsDtcEdited first node a e)
+    (λ x. child-edited first made.begins node made.node c.args.depth a b d c.args.name.now c.requires.place m.made m.keeps r.nodes (r.begun ∙ m.begun) e m.grows
+    (λ f. m.begins ∙ ap (λ z. is_first z (child_path a node c.args.name.now) (placed_of a)) f) x)
+    c.edit_dtc_body.ensures.edited

@@ -1,7 +1,0 @@
-use Rattle.std.proofs.Common.{refl}
-use Rattle.dt_check_links.specs.Interrupts.{most_levels}
-use Rattle.dt_check_links.proofs.interrupts.most_levels.Goals as goal
-
-pub returns : goal.returns
-unfolding most_levels
-returns c = refl

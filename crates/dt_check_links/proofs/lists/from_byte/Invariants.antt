@@ -1,7 +1,0 @@
-use Rattle.std.proofs.Common.{◌≡◌, drop}
-use Rattle.dt_check_links.specs.Lists.{from_byte}
-use Rattle.dt_check_links.proofs.lists.from_byte.Given as goal
-
--- all so far stand before the byte
-abbrev pub invariant-loop-index : goal.invariant-loop-index
-invariant-loop-index l = from_byte l.byte (drop l.index l.references) ≡ from_byte l.byte l.references

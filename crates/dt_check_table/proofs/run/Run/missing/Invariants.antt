@@ -1,7 +1,0 @@
-use Rattle.std.proofs.Common.{◌≡◌, ◌++◌, drop}
-use Rattle.dt_check_table.specs.Run.{missing}
-use Rattle.dt_check_table.proofs.run.Run.missing.Given as goal
-
--- those so far and those that are left are all
-abbrev pub invariant-loop-prerequisite : goal.invariant-loop-prerequisite
-invariant-loop-prerequisite l = l.gone.items ++ missing l.self.told l.check (drop l.prerequisite-index l.needed) ≡ missing l.self.told l.check l.needed

@@ -1,7 +1,0 @@
-use Rattle.std.proofs.Common.{◌≡◌, ◌++◌, drop}
-use Rattle.dt_check_table.specs.Selected.{changed_from}
-use Rattle.dt_check_table.proofs.selection.changed.Given as goal
-
--- what is there so far and what is left is the whole
-abbrev pub invariant-loop-place : goal.invariant-loop-place
-invariant-loop-place l = l.new.items ++ changed_from l.rows l.change l.place (drop l.place l.levels) ≡ changed_from l.rows l.change 0 l.levels

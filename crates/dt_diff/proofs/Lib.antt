@@ -1,9 +1,0 @@
-mod CellLemmas
-mod CompareLemmas
-mod ListedLemmas
-mod NamingLemmas
-mod OrderLaws
-mod OrderLemmas
-mod PartLemmas
-mod SameNodes
-mod SharedLemmas

@@ -1,9 +1,0 @@
--- A single edit that is refused stops the edits.
-use Rattle.dt_places.specs.declared.error.PlaceError.{PlaceError}
-use Rattle.dt_places.specs.declared.error.PlaceError.TheVariants as places
-use Rattle.dt_edit.specs.declared.error.EditErrorKind.{EditErrorKind}
-use Rattle.dt_edit.specs.declared.error.EditErrorKind.TheVariants.{NoMemory, DuplicateInBody}
-
-abbrev pub place_error : PlaceError → EditErrorKind
-place_error places.NoMemory = NoMemory
-place_error places.DuplicateInBody = DuplicateInBody

@@ -1,9 +1,0 @@
--- A label at two nodes stops the edits once all is read.
-use Rattle.dt_places.specs.declared.error.StandError.{StandError}
-use Rattle.dt_places.specs.declared.error.StandError.TheVariants as stands
-use Rattle.dt_edit.specs.declared.error.EditErrorKind.{EditErrorKind}
-use Rattle.dt_edit.specs.declared.error.EditErrorKind.TheVariants.{NoMemory, DuplicateLabel}
-
-abbrev pub stand_error : StandError → EditErrorKind
-stand_error stands.NoMemory = NoMemory
-stand_error (stands.DuplicateLabel at) = DuplicateLabel

@@ -1,7 +1,0 @@
-mod Literals
-mod Steps
-mod Operators
-pub mod Sound
-pub mod Complete
-pub mod Trees
-mod Unescaping

@@ -1,5 +1,0 @@
-use Rattle.std.proofs.Common.{rules}
-use Rattle.dt_expression.proofs.elements.push_low_bytes.Goals as goal
-
-pub returns-in-Sixteen : goal.returns-in-Sixteen
-returns-in-Sixteen c = search rules

@@ -1,7 +1,0 @@
-use Rattle.std.proofs.Common.{◌≡◌, max}
-use Rattle.dt_overlay_meaning.specs.Shifted.{greatest}
-use Rattle.dt_fixup.proofs.Phandles.{phandles_from}
-use Rattle.dt_fixup.proofs.phandle.greatest_phandle.Given as goal
-
-abbrev pub invariant-loop-property : goal.invariant-loop-property
-invariant-loop-property l = record { rest : greatest (phandles_from l.live 0) ≡ max l.greatest (greatest (phandles_from l.live l.property)) }

@@ -1,7 +1,0 @@
-use Rattle.std.proofs.Common.{sym}
-use Rattle.dt_include.proofs.WordsHere.{run_passed}
-use Rattle.dt_include.proofs.words.piece_at.Goals as goal
-
-pub returns : goal.returns
-returns c =
-    run_passed c.args.s.now c.behind.result.now c.run_len.result c.requires (sym c.if-begins.ensures.value) (sym c.if-begins-2.ensures.value) (sym c.if-begins-3.ensures.value) c.run_len.ensures c.behind.ensures

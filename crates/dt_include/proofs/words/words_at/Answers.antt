@@ -1,6 +1,0 @@
-use Rattle.std.proofs.Common.{sym}
-use Rattle.dt_include.proofs.WordsHere.{slash_passed}
-use Rattle.dt_include.proofs.words.words_at.Goals as goal
-
-pub returns : goal.returns
-returns c = slash_passed c.args.s.now c.behind.result.now c.requires.slash c.requires.remark (sym c.if-begins_include.ensures) (sym c.if-begins_incbin.ensures) c.behind.ensures

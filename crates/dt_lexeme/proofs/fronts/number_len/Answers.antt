@@ -1,7 +1,0 @@
-use Rattle.std.proofs.Common.{List, ℕ, subst}
-use Rattle.dt_lexeme.specs.Fronts.{IsFront, suffix}
-use Rattle.dt_lexeme.proofs.Numbers.{number_front}
-use Rattle.dt_lexeme.proofs.fronts.number_len.Goals as goal
-
-pub returns : goal.returns
-returns c = number_front c.args.class c.args.s.now c.run_len-digits.result c.suffix_len.result c.run_len-digits.ensures (subst (λ (t : List ℕ). IsFront suffix t c.suffix_len.result) c.from.ensures c.suffix_len.ensures)

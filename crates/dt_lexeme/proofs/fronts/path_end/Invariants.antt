@@ -1,6 +1,0 @@
-use Rattle.dt_lexeme.specs.Fronts.{closes_path}
-use Rattle.dt_lexeme.proofs.Runs.{Leads}
-use Rattle.dt_lexeme.proofs.fronts.path_end.Given as goal
-
-abbrev pub invariant-loop-i : goal.invariant-loop-i
-invariant-loop-i l = Leads (closes_path l.language 0) (closes_path l.language l.name) l.s l.i

@@ -1,5 +1,0 @@
-use Rattle.std.proofs.Common.{rules}
-use Rattle.dt_lexeme.proofs.scanner.scan.Goals as goal
-
-pub returns-in_default-Some-clause-syntax : goal.returns-in_default-Some-clause-syntax
-returns-in_default-Some-clause-syntax c = search rules

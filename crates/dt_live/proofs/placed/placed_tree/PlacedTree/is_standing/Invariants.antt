@@ -1,0 +1,13 @@
+use Rattle.std.proofs.Common.{◌≡◌, ◌≤◌, length}
+use Rattle.dt_live.specs.Placed.Rows.{holds}
+use Rattle.dt_live.specs.Placed.Tables.{rows_in}
+use Rattle.dt_live.proofs.placed.placed_tree.PlacedTree.is_standing.Given as goal
+
+abbrev pub invariant-up : goal.invariant-up
+invariant-up g l = record {
+  known : l.at ≤ length (rows_in l.self.nodes);
+  same : holds (rows_in l.self.nodes) l.at ≡ holds (rows_in l.self.nodes) l.fn.node;
+}
+
+abbrev pub decreases-up : goal.decreases-up
+decreases-up g l = l.at

@@ -1,0 +1,35 @@
+use Rattle.std.proofs.Common.{◌≡◌, ◌∙◌, Some, None, sym, ap, rules}
+use Rattle.std.specs.Prelude.{codes}
+use Rattle.dt_tree.specs.Path.{path_names}
+use Rattle.dt_live.specs.Rows.{property_of}
+use Rattle.dt_overlay.proofs.FixupLemmas.LookUps.{row-there}
+use Rattle.dt_overlay.proofs.FixupLemmas.SymbolLaws.{path-nowhere, phandle-nowhere, phandle-missing, phandle-there}
+use Rattle.dt_overlay.proofs.fixup.symbols.symbol_phandle.Goals as goal
+
+pub returns-in_default-at_path : goal.returns-in_default-at_path
+returns-in_default-at_path c =
+    let d = c.args.base.now in
+    let q = path_names c.in-Some.path.now in
+    sym (phandle-nowhere d c.requires c.args.symbol.now q c.in-Some.ensures (path-nowhere d c.requires q c.in_default-at_path.ensures.path))
+
+pub returns-in_default-property : goal.returns-in_default-property
+returns-in_default-property c =
+    let d = c.args.base.now in
+    let text : c.as_slice.result.now ≡ codes "phandle" = search rules in
+    let none : property_of d c.in-Some-at_path.node (codes "phandle") ≡ None = ap (property_of d c.in-Some-at_path.node) (sym text) ∙ sym c.property.ensures ∙ c.in_default-property.is in
+    sym (phandle-missing d c.requires c.args.symbol.now (path_names c.in-Some.path.now) c.in-Some-at_path.node c.in-Some.ensures c.in-Some-at_path.ensures.path.1 c.in-Some-at_path.ensures.known none)
+
+pub row_phandle-requires-clause-known : goal.row_phandle-requires-clause-known
+row_phandle-requires-clause-known c =
+    let d = c.args.base.now in
+    let text : c.as_slice.result.now ≡ codes "phandle" = search rules in
+    let found : property_of d c.in-Some-at_path.node (codes "phandle") ≡ Some c.in-Some-property.row = ap (property_of d c.in-Some-at_path.node) (sym text) ∙ sym c.property.ensures ∙ c.in-Some-property.is in
+    (row-there d c.requires c.in-Some-at_path.node (codes "phandle") c.in-Some-property.row found).0
+
+pub returns : goal.returns
+returns c =
+    let d = c.args.base.now in
+    let text : c.as_slice.result.now ≡ codes "phandle" = search rules in
+    let found : property_of d c.in-Some-at_path.node (codes "phandle") ≡ Some c.in-Some-property.row = ap (property_of d c.in-Some-at_path.node) (sym text) ∙ sym c.property.ensures ∙ c.in-Some-property.is in
+    c.row_phandle.ensures
+    ∙ sym (phandle-there d c.requires c.args.symbol.now (path_names c.in-Some.path.now) c.in-Some-at_path.node c.in-Some-property.row c.in-Some.ensures c.in-Some-at_path.ensures.path.1 c.in-Some-at_path.ensures.known found)

@@ -1,0 +1,60 @@
+-- Calls as steps of the meaning (dt-object-internal, section 2).
+use Rattle.std.specs.Prelude.{◌≡◌, ◌+◌, ◌≤◌, ℕ, ◌&&◌, Bool, true, false, not, Option, Some, Result, Ok, MatchOption, MatchResult, List, [], ◌∷◌, codes, drop, length}
+use Rattle.std.specs.List.{filter}
+use Rattle.std.specs.Str.{bytes_eq}
+use Rattle.dt_tree.specs.Steps.{fold}
+use Rattle.dt_tree.specs.Phandle.{is_reserved}
+use Rattle.dt_source.specs.TreeMeaning.Edits.{definition}
+use Rattle.dt_source.specs.TreeMeaning.MapOf.{value_in}
+use Rattle.dt_live.specs.declared.live_tree.LiveTree.{LiveTree}
+use Rattle.dt_live.specs.ByRow.{row_property}
+use Rattle.dt_live.specs.Flattened.{Lent, lists}
+use Rattle.dt_live.specs.Rows.{node_path, property_of}
+use Rattle.dt_source.specs.OverlayMeaning.Fault.{Fault}
+use Rattle.dt_source.specs.OverlayMeaning.Shifted.{Site, Shifting, Value, fits, is_local_fixup, raise_at, raise_sites, site, take_site}
+use Rattle.dt_overlay.specs.declared.fixup.error.OverlayError.{OverlayError}
+use Rattle.dt_overlay.specs.declared.fixup.patched_overlay.PatchedOverlay.{PatchedOverlay}
+use Rattle.dt_overlay.specs.Fixup.OverlayFault.{IsFault}
+use Rattle.dt_overlay.specs.Fixup.PatchedOverlay.{properties_of, value_at}
+use Rattle.dt_overlay.specs.Fixup.Private.Steps.{IsAt}
+
+-- a call does what a step of the meaning does, or has its fault
+abbrev pub IsStep : {A : Type 0} → (Shifting → Result Shifting Fault) → PatchedOverlay → PatchedOverlay → Result A OverlayError → Type 0
+IsStep f s t r = (x : Shifting) → IsAt x s → MatchResult r (λ _. (y : Shifting) × (f x ≡ Ok y) × IsAt y t) (λ e. IsFault e (f x))
+
+-- so far a loop has come: what is left gives what all would give
+abbrev pub IsReached : (Shifting → Result Shifting Fault) → (Shifting → Result Shifting Fault) → PatchedOverlay → PatchedOverlay → Type 0
+IsReached all rest s t = (x : Shifting) → IsAt x s → (y : Shifting) × (all x ≡ rest y) × IsAt y t
+
+-- a site inside a value that may be written
+abbrev pub is_open : Site → List Value → Bool
+is_open a es = fits a.offset (value_in es a.path a.name) && not (is_reserved a.path) && not (bytes_eq a.name (codes "phandle"))
+
+-- what one property's local fixup does
+abbrev pub property_step : ℕ → LiveTree Lent → ℕ → Shifting → Result Shifting Fault
+property_step shift d k = fold (raise_sites shift) (filter is_local_fixup (row_property d k ∷ []))
+
+-- the site at an offset of a node's property
+abbrev pub site_at : PatchedOverlay → ℕ → List ℕ → ℕ → Site
+site_at s node name offset = site (node_path s.live node) name offset
+
+-- the row of the property of a site that may be written, none where it may not
+abbrev pub IsOpenRow : PatchedOverlay → ℕ → List ℕ → ℕ → Option ℕ → Type 0
+IsOpenRow s node name offset found =
+    MatchOption found (is_open (site_at s node name offset) (properties_of s) ≡ false)
+    (λ row. (is_open (site_at s node name offset) (properties_of s) ≡ true) × (property_of s.live node name ≡ Some row) × (offset + 4 ≤ length (value_at s row)))
+
+-- what one site of a local fixup does, and all sites of one
+abbrev pub site_step : ℕ → PatchedOverlay → ℕ → List ℕ → ℕ → Shifting → Result Shifting Fault
+site_step shift s node name offset = raise_at shift (site (drop 1 (node_path s.live node)) name offset)
+
+abbrev pub sites_step : ℕ → PatchedOverlay → ℕ → List ℕ → List ℕ → Shifting → Result Shifting Fault
+sites_step shift s node name value = raise_sites shift (definition (node_path s.live node) name value)
+
+-- what all local fixups do, in order
+abbrev pub local_step : ℕ → LiveTree Lent → Shifting → Result Shifting Fault
+local_step shift d = fold (raise_sites shift) (filter is_local_fixup (lists d).properties)
+
+-- the site at an offset of a node's property is taken
+abbrev pub site_taken : PatchedOverlay → ℕ → List ℕ → ℕ → Shifting → Result Shifting Fault
+site_taken s node name offset = take_site (site_at s node name offset)

@@ -1,0 +1,118 @@
+//! An overlay's phandles, raised above those of its base.
+ghost use Rattle.std.specs.Prelude.{◌≡◌, ◌<◌, ◌==◌, ◌||◌, ℕ, None, false, not, length, IfOk, OnOk};
+ghost use Rattle.std.specs.Int.{to_be_bytes, w32};
+ghost use Rattle.dt_live.specs.ByRow.{row_property};
+ghost use Rattle.dt_live.specs.Flattened.{IsWhole, lists};
+ghost use Rattle.dt_tree.specs.Steps.{each};
+ghost use Rattle.dt_source.specs.OverlayMeaning.Shifted as meaning;
+ghost use Rattle.dt_source.specs.OverlayMeaning.Shifted.{differ, phandles, raised_phandle, with_phandles};
+ghost use Rattle.dt_overlay.specs.Fixup.OverlayFault.{Gives};
+ghost use Rattle.dt_overlay.specs.Fixup.PatchedOverlay.{IsPatched, change_at, value_at};
+ghost use Rattle.dt_overlay.specs.Fixup.Private.Marks.{KeepsMarks};
+ghost use Rattle.dt_overlay.specs.Fixup.Private.Rows.{DoesToAll, KeepsOthers, RaisesRow, is_met};
+ghost use Rattle.dt_overlay.specs.Fixup.Private.Steps.{is_marked};
+
+use crate::fixup::error::OverlayError;
+use crate::fixup::patched_overlay::PatchedOverlay;
+use crate::fixup::phandle::row_phandle;
+use dt_live::LiveTree;
+use std::alloc::{AllocError, Global};
+use std::collections::BTreeSet;
+
+/// A number that is raised, where it still is a phandle.
+pub(crate) fn raised(number: u32, shift: usize) -> Result<u32, OverlayError>
+    ensures { Gives (meaning.raised shift number) (to_be_bytes w32) result }
+{
+    if shift >= (u32::MAX - number) as usize {
+        return Err(OverlayError::PhandleOverflow);
+    }
+    Ok(number + shift as u32)
+}
+
+// Raises the phandle that a property gives, where it gives one.
+fn raise_property(
+    patched: &mut PatchedOverlay<'_>,
+    property: usize,
+    shift: usize,
+) -> Result<(), OverlayError>
+    requires sound { IsPatched patched.old }
+    requires known { property < length patched.old.live.properties.items }
+    requires fresh { value_at patched.old property ≡ (row_property patched.old.live property).value }
+    ensures sound { IsPatched patched.new }
+    ensures live { patched.new.live ≡ patched.old.live }
+    ensures marks { OnOk result (KeepsMarks patched.old patched.new) }
+    ensures others { OnOk result (KeepsOthers property patched.old patched.new) }
+    ensures raised { RaisesRow shift property patched.old patched.new result }
+{
+    let number = match row_phandle(&patched.live, property) {
+        Some(number) => number,
+        None => return Ok(()),
+    };
+    let number = match raised(number, shift) {
+        Ok(number) => number,
+        Err(error) => return Err(error),
+    };
+    patched.write(property, 0, number)?;
+    Ok(())
+}
+
+// Adds a phandle, and answers whether it is new.
+fn meet(met: &mut BTreeSet<u32>, number: u32) -> Result<bool, AllocError>
+    ensures new { IfOk result (λ new. new ≡ not (is_met met.old number)) }
+    ensures met { OnOk result ((n : ℕ) → is_met met.new n ≡ ((number == n) || is_met met.old n)) }
+{
+    Ok(met.insert(number)?)
+}
+
+// Whether no two properties give one phandle.
+fn are_distinct<'t>(alloc: Global, live: &LiveTree<'t, &'t [u8]>) -> Result<bool, AllocError>
+    requires { IsWhole live.now }
+    ensures { IfOk result (λ distinct. distinct ≡ differ (phandles (lists live.now).properties)) }
+{
+    let mut met = BTreeSet::new(alloc);
+    for property in 0..live.properties().len() {
+        if let Some(number) = row_phandle(live, property) {
+            if !meet(&mut met, number)? {
+                return Ok(false);
+            }
+        }
+    }
+    Ok(true)
+}
+
+// Raises all phandles, whether or not two of them are one.
+fn raise_properties(patched: &mut PatchedOverlay<'_>, shift: usize) -> Result<(), OverlayError>
+    requires sound { IsPatched patched.old }
+    requires unchanged { (k : ℕ) → change_at patched.old k ≡ None }
+    ensures sound { IsPatched patched.new }
+    ensures live { patched.new.live ≡ patched.old.live }
+    ensures unmarked { OnOk result ((k i : ℕ) → is_marked (change_at patched.new k) i ≡ false) }
+    ensures raised { DoesToAll (each (raised_phandle shift)) patched.old patched.new result }
+{
+    for property in 0..patched.live.properties().len() {
+        if let Err(error) = raise_property(patched, property, shift) {
+            return Err(error);
+        }
+    }
+    Ok(())
+}
+
+/// Raises each phandle of an overlay, before any other change.
+pub(crate) fn raise(
+    alloc: Global,
+    patched: &mut PatchedOverlay<'_>,
+    shift: usize,
+) -> Result<(), OverlayError>
+    requires sound { IsPatched patched.old }
+    requires unchanged { (k : ℕ) → change_at patched.old k ≡ None }
+    ensures sound { IsPatched patched.new }
+    ensures live { patched.new.live ≡ patched.old.live }
+    ensures unmarked { OnOk result ((k i : ℕ) → is_marked (change_at patched.new k) i ≡ false) }
+    ensures phandles { DoesToAll (with_phandles shift) patched.old patched.new result }
+{
+    raise_properties(patched, shift)?;
+    if !are_distinct(alloc, &patched.live)? {
+        return Err(OverlayError::PhandleClash);
+    }
+    Ok(())
+}

@@ -1,0 +1,64 @@
+//! Where fixup sites lie.
+ghost use Rattle.std.specs.Prelude.{◌≡◌, ◌+◌, ◌≤◌, ℕ, length, Some, IfOk};
+ghost use Rattle.dt_live.specs.Rows.{IsNode, property_of};
+ghost use Rattle.dt_overlay.specs.Fixup.PatchedOverlay.{IsPatched, value_at};
+ghost use Rattle.dt_overlay.specs.Fixup.Private.Walk.{IsOpenRow, IsStep, site_taken};
+
+use crate::fixup::error::OverlayError;
+use crate::fixup::patched_overlay::PatchedOverlay;
+use dt_live::is_reserved;
+
+/// The row of the property that four bytes at an offset lie in, where they may be written.
+fn open_row<'t>(
+    patched: &PatchedOverlay<'t>,
+    node: usize,
+    name: &'t [u8],
+    offset: usize,
+) -> Option<usize>
+    requires sound { IsPatched patched.now }
+    requires known { IsNode patched.now.live node }
+    ensures { IsOpenRow patched.now node name.now offset result }
+{
+    let Some(row) = patched.live.property(node, name) else {
+        return None;
+    };
+    let length = patched.value(row).len();
+    if length < 4 {
+        return None;
+    }
+    if length - 4 < offset {
+        return None;
+    }
+    if is_reserved(patched.live.nodes(), node) {
+        return None;
+    }
+    if name == b"phandle".as_slice() {
+        return None;
+    }
+    Some(row)
+}
+
+/// Takes the four bytes at an offset of a node's property for a site, and answers the property's row.
+pub(crate) fn take_site<'t>(
+    patched: &mut PatchedOverlay<'t>,
+    node: usize,
+    name: &'t [u8],
+    offset: usize,
+) -> Result<usize, OverlayError>
+    requires sound { IsPatched patched.old }
+    requires known { IsNode patched.old.live node }
+    ensures sound { IsPatched patched.new }
+    ensures live { patched.new.live ≡ patched.old.live }
+    ensures values { (k : ℕ) → value_at patched.new k ≡ value_at patched.old k }
+    ensures row { IfOk result (λ row. property_of patched.old.live node name.now ≡ Some row) }
+    ensures fits { IfOk result (λ row. offset + 4 ≤ length (value_at patched.new row)) }
+    ensures step { IsStep (site_taken patched.old node name.now offset) patched.old patched.new result }
+{
+    let Some(row) = open_row(patched, node, name, offset) else {
+        return Err(OverlayError::BadFixup);
+    };
+    if !patched.take(row, offset)? {
+        return Err(OverlayError::BadFixup);
+    }
+    Ok(row)
+}

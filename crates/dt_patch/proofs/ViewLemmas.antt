@@ -1,0 +1,15 @@
+pub mod Beginnings
+pub mod CellCounts
+pub mod Descents
+pub mod Ends
+pub mod Goings
+pub mod Holdings
+pub mod Levels
+pub mod Names
+pub mod Orders
+pub mod Overviews
+pub mod Pairs
+pub mod Reaches
+pub mod Shapes
+pub mod Spellings
+pub mod Walks

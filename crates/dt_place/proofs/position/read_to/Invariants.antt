@@ -1,5 +1,0 @@
-use Rattle.dt_place.specs.Positions.{IsCursor}
-use Rattle.dt_place.proofs.position.read_to.Given as goal
-
-abbrev pub invariant-loop-i : goal.invariant-loop-i
-invariant-loop-i l = IsCursor l.text l.origin l.start l.i

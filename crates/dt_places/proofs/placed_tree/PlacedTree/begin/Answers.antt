@@ -1,6 +1,0 @@
-use Rattle.std.proofs.Common.{refl}
-use Rattle.dt_places.proofs.LabelEdits.{begun-tree}
-use Rattle.dt_places.proofs.placed_tree.PlacedTree.begin.Goals as goal
-
-pub returns-clause-tree : goal.returns-clause-tree
-returns-clause-tree g c = λ read. begun-tree read c.args.self.now c.requires.empty c.args.self.now.begun refl

@@ -1,7 +1,0 @@
-use Rattle.std.proofs.Common.{take}
-use Rattle.dt_places.specs.Shown.{HasNodes}
-use Rattle.dt_places.specs.Tables.{rows_in}
-use Rattle.dt_places.proofs.placed_tree.PlacedTree.show_some.Given as goal
-
-abbrev pub invariant-loop-node : goal.invariant-loop-node
-invariant-loop-node g l = HasNodes (rows_in l.self.nodes) (take l.node-index l.nodes) l.shown

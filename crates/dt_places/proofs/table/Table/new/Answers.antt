@@ -1,5 +1,0 @@
-use Rattle.dt_places.proofs.RowTables.{table-empty}
-use Rattle.dt_places.proofs.table.Table.new.Goals as goal
-
-pub returns-clause-table : goal.returns-clause-table
-returns-clause-table g c = table-empty c.new.result.items _ c.new.ensures.items c.new-2.ensures.rows

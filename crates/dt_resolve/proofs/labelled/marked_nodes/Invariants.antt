@@ -1,7 +1,0 @@
-use Rattle.std.proofs.Common.{◌≡◌, take}
-use Rattle.dt_resolve.specs.Private.Gone.{is_marked}
-use Rattle.dt_resolve.specs.Private.Wanted.{marked_rows}
-use Rattle.dt_resolve.proofs.labelled.marked_nodes.Given as goal
-
-abbrev pub invariant-loop-node : goal.invariant-loop-node
-invariant-loop-node l = l.nodes.items ≡ marked_rows l.live (is_marked l.marks) (take l.node-index l.order)

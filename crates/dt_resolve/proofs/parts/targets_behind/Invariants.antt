@@ -1,9 +1,0 @@
-use Rattle.std.proofs.Common.{◌≡◌, ◌+◌, ◌≤◌, drop}
-use Rattle.dt_resolve.specs.Founds.{all_uses}
-use Rattle.dt_resolve.proofs.parts.targets_behind.Given as goal
-
-abbrev pub invariant-loop-part : goal.invariant-loop-part
-invariant-loop-part l = record {
-  few : l.count ≤ l.part-index;
-  count : l.count + all_uses (drop l.part-index l.value) ≡ all_uses l.value;
-}

@@ -1,6 +1,0 @@
-use Rattle.dt_edit.specs.Said.{tree_of}
-use Rattle.dt_resolve.proofs.PreparedFaults.{references-stop}
-use Rattle.dt_resolve.proofs.prepared.order_and_resolution.Goals as goal
-
-pub returns-in-Err : goal.returns-in-Err
-returns-in-Err c m n done is = references-stop c.in-Err.error.kind c.args.symbols c.args.plugin m n (tree_of c.args.live.now) done is c.in-Err.ensures.resolved

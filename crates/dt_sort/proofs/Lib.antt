@@ -1,4 +1,0 @@
-mod InOrder
-mod Lookups
-mod Nodes
-mod Reserves

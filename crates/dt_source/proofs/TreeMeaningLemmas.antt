@@ -1,0 +1,10 @@
+pub mod SeenNodes
+pub mod SeenProperties
+pub mod DtcLists
+pub mod StandingRows
+pub mod DtcSteps
+pub mod DtcBodies
+pub mod DtcOrder
+pub mod DtcSound
+pub mod DtcRest
+pub mod Alike

@@ -1,0 +1,6 @@
+//! Worked rows of trees, sources and includes.
+#![tactic(auto)]
+
+pub mod include;
+pub mod source;
+pub mod tree;

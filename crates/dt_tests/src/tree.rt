@@ -1,0 +1,28 @@
+//! The worked rows of trees and blobs, as tables: what a row gives is what the definitions say of it, worked by hand.
+//!
+//! The tests stand here, above the crates of trees, so that no crate is proved a second time for them.
+
+#[cfg(test)]
+mod blobs;
+#[cfg(test)]
+mod callers;
+#[cfg(test)]
+mod cells;
+#[cfg(test)]
+mod changes;
+#[cfg(test)]
+mod growing;
+#[cfg(test)]
+mod merges;
+#[cfg(test)]
+mod patches;
+#[cfg(test)]
+mod removals;
+#[cfg(test)]
+mod reservations;
+#[cfg(test)]
+mod trees;
+#[cfg(test)]
+mod versions;
+#[cfg(test)]
+mod views;

@@ -1,0 +1,10 @@
+pub mod MarkerWords
+pub mod OpenFiles
+pub mod Pieces
+pub mod Putting
+pub mod Reaching
+pub mod Runs
+pub mod Searches
+pub mod UserPlaces
+pub mod WordEnds
+pub mod WordsHere

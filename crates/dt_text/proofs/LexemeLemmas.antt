@@ -1,0 +1,10 @@
+pub mod Runs
+pub mod Numbers
+pub mod GapEnds
+pub mod Begins
+pub mod Scanning
+pub mod InOrder
+pub mod Tails
+pub mod NameForms
+pub mod PathForms
+pub mod LexemeForms

@@ -1,0 +1,4 @@
+pub mod ExpressionLemmas
+pub mod IncludeLemmas
+pub mod LexemeLemmas
+pub mod PlaceLemmas

@@ -1,0 +1,4 @@
+pub mod Expression
+pub mod Include
+pub mod Lexeme
+pub mod Place

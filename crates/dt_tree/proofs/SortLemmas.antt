@@ -1,0 +1,4 @@
+pub mod InOrder
+pub mod Lookups
+pub mod Nodes
+pub mod Reserves

@@ -1,8 +1,0 @@
-use Rattle.dt_tree_builder.proofs.InTurn.{each-once, in-turn}
-use Rattle.dt_tree_builder.proofs.laws.walk_of_nodes.Goals as goal
-
-pub returns-clause-once : goal.returns-clause-once
-returns-clause-once c = each-once
-
-pub returns-clause-followed : goal.returns-clause-followed
-returns-clause-followed c = λ nodes are. in-turn nodes

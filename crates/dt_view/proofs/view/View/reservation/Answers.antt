@@ -1,4 +1,0 @@
-use Rattle.dt_view.proofs.view.View.reservation.Goals as goal
-
-pub returns : goal.returns
-returns c = λ tree v. c.reservation_in.ensures tree.reserves v.reserves

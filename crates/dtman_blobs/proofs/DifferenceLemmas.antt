@@ -1,0 +1,9 @@
+pub mod CellLemmas
+pub mod CompareLemmas
+pub mod ListedLemmas
+pub mod NamingLemmas
+pub mod OrderLaws
+pub mod OrderLemmas
+pub mod PartLemmas
+pub mod SameNodes
+pub mod SharedLemmas

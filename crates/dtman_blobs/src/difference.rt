@@ -1,0 +1,16 @@
+//! Two trees compared by paths: what one has and the other hasn't, a phandle taken as the path of the node that it names.
+
+mod by_name;
+mod comparing;
+mod difference;
+mod naming;
+mod ordering;
+mod parts;
+mod reference_table;
+
+pub use comparing::{Comparison, compare, is_own_phandle};
+pub use difference::{Difference, Side, Thing};
+pub use naming::{Named, Naming};
+pub use ordering::{Kind, Reordered, compare_order};
+pub use parts::{Part, Seen, are_same};
+pub use reference_table::Form;

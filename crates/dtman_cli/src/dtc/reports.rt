@@ -1,0 +1,337 @@
+//! What is said on standard error, in dtc's way.
+
+use crate::dtc::edits::names_edited;
+use crate::dtc::host::{Fault, Host};
+use crate::dtc::options::BadWord;
+use crate::dtc::running::{FAILED, WRONG_TREE};
+use crate::dtc::wording::words_of_number;
+use dt_text::include::{Incomplete, Place, Shortfall, Span, columns_of, user_place};
+use dt_text::lexeme::line_of;
+use std::alloc::{AllocError, AllocFailed, Global};
+
+/// Why a run ended without its output.
+#[derive(Drop)]
+pub(crate) enum Failure<'a> {
+    NoMemory,
+    NoInput(&'a str),
+    NoOutput(&'a str),
+    NoSeed,
+    Word(BadWord<'a>),
+    /// What a source takes in isn't there.
+    Incomplete(Incomplete),
+    /// It was said already what is wrong, and in what.
+    Said(Wrong),
+    /// An overlay that doesn't fit; why was said already.
+    NotApplied(&'a str),
+    /// A blob over 2^32 bytes.
+    TooLong,
+}
+
+/// In what something is wrong.
+#[derive(Clone, Copy, Debug, PartialEq, Eq)]
+pub(crate) enum Wrong {
+    /// In the words of a source, or the bytes of a blob.
+    Text,
+    /// In the tree that they make.
+    Tree,
+}
+
+impl From<AllocError> for Failure<'_> {
+    fn from(_error: AllocError) -> Self {
+        Failure::NoMemory
+    }
+}
+
+impl<T: Drop> From<AllocFailed<T>> for Failure<'_> {
+    fn from(_error: AllocFailed<T>) -> Self {
+        Failure::NoMemory
+    }
+}
+
+/// Says a refusal of the compiler in a source with all that it takes in, where it shows in the user's files.
+pub(crate) fn report_source<H: Host>(
+    alloc: Global,
+    host: &mut H,
+    file: &[u8],
+    text: &[u8],
+    fault: &Fault,
+) -> Failure<'static> {
+    let Some(bytes) = fault.bytes else {
+        return report_fault(alloc, host, file, text, fault);
+    };
+    let told = Told {
+        number: fault.number,
+        name: fault.name,
+        lexeme: lexeme_in(text, bytes),
+    };
+    let at = located(text, place_of(file, text, bytes));
+    let wrong = match names_edited(alloc, text, bytes) {
+        Ok(true) => Wrong::Text,
+        Ok(false) => wrong_in(fault.number),
+        Err(_) => return Failure::NoMemory,
+    };
+    said(wrong, report_at(alloc, host, Some(at), told))
+}
+
+/// Says what else is refused of it, and answers with the failure that ends the run: one of the source's words comes before one of the
+/// tree that they make.
+pub(crate) fn report_further<H: Host>(
+    alloc: Global,
+    host: &mut H,
+    file: &[u8],
+    text: &[u8],
+    first: Failure<'static>,
+    further: &[Fault],
+) -> Failure<'static> {
+    let mut failure = first;
+    for fault in further {
+        let told = report_source(alloc, host, file, text, fault);
+        if matches!(told, Failure::Said(Wrong::Text)) {
+            failure = told;
+        }
+    }
+    failure
+}
+
+/// The user's place of bytes of a text.
+fn place_of<'t>(file: &'t [u8], text: &'t [u8], bytes: Span) -> Place<'t> {
+    let line = line_of(text, bytes.start.min(u32::MAX as usize) as u32);
+    Place {
+        span: Some(bytes),
+        ..user_place(file, text, line)
+    }
+}
+
+/// Says a refusal of the compiler, at its line of the user's file.
+pub(crate) fn report_fault<H: Host>(
+    alloc: Global,
+    host: &mut H,
+    file: &[u8],
+    text: &[u8],
+    fault: &Fault,
+) -> Failure<'static> {
+    if fault.number == 0 {
+        return Failure::NoMemory;
+    }
+    let at = match fault.line {
+        Some(line) => Some(located(text, user_place(file, text, line))),
+        None if file.is_empty() => None,
+        None => Some(Shown {
+            file,
+            line: None,
+            columns: None,
+        }),
+    };
+    let told = Told {
+        number: fault.number,
+        name: fault.name,
+        lexeme: b"",
+    };
+    said(wrong_in(fault.number), report_at(alloc, host, at, told))
+}
+
+/// Where dtc looks at what a source's words say, after all of them were read.
+fn wrong_in(number: u8) -> Wrong {
+    match number {
+        20..=29 => Wrong::Tree,
+        _ => Wrong::Text,
+    }
+}
+
+/// What is told of a refusal beside its place: the bytes of the text are none where they aren't known.
+#[derive(Clone, Copy)]
+struct Told<'a> {
+    number: u8,
+    name: &'a str,
+    lexeme: &'a [u8],
+}
+
+/// The bytes of a span, where they are text of one line and short enough to be shown.
+fn lexeme_in(text: &[u8], span: Span) -> &[u8] {
+    match text.get(span.start..span.end) {
+        Some(lexeme) if lexeme.len() <= MAX_SHOWN && is_shown(lexeme) => lexeme,
+        _ => b"",
+    }
+}
+
+/// How long a lexeme is at most that is shown, in bytes.
+const MAX_SHOWN: usize = 80;
+
+fn is_shown(lexeme: &[u8]) -> bool {
+    for c in lexeme {
+        if !matches!(*c, b' '..=b'~') {
+            return false;
+        }
+    }
+    true
+}
+
+/// A file, its line where it is known, and columns where they are: the first, and the one behind the last.
+#[derive(Clone, Copy)]
+struct Shown<'a> {
+    file: &'a [u8],
+    line: Option<usize>,
+    columns: Option<Span>,
+}
+
+/// A place of a text.
+fn located<'a>(text: &[u8], place: Place<'a>) -> Shown<'a> {
+    Shown {
+        file: place.file,
+        line: Some(place.line),
+        columns: match place.span {
+            Some(span) => Some(columns_of(text, span)),
+            None => None,
+        },
+    }
+}
+
+fn said(wrong: Wrong, reported: Result<(), AllocError>) -> Failure<'static> {
+    match reported {
+        Ok(()) => Failure::Said(wrong),
+        Err(_) => Failure::NoMemory,
+    }
+}
+
+/// `Error: FILE:LINE.COLUMN-COLUMN: NAME: words: LEXEME`, as far as it is known.
+fn report_at<H: Host>(
+    alloc: Global,
+    host: &mut H,
+    at: Option<Shown<'_>>,
+    told: Told<'_>,
+) -> Result<(), AllocError> {
+    let mut line = Vec::from_slice(alloc, b"Error: ")?;
+    if let Some(at) = at {
+        put_place(alloc, &mut line, at)?;
+    }
+    let (name, words) = (told.name, words_of_number(told.number));
+    line.extend_from_slice(format!(in alloc; "{name}: {words}")?.as_bytes())?;
+    if !told.lexeme.is_empty() {
+        line.extend_from_slice(b": `")?;
+        line.extend_from_slice(told.lexeme)?;
+        line.extend_from_slice(b"`")?;
+    }
+    line.extend_from_slice(b"\n")?;
+    host.report(line.as_slice());
+    Ok(())
+}
+
+/// `FILE:LINE.COLUMN-COLUMN: `.
+fn put_place(alloc: Global, line: &mut Vec<u8>, at: Shown<'_>) -> Result<(), AllocError> {
+    line.extend_from_slice(at.file)?;
+    if let Some(number) = at.line {
+        line.extend_from_slice(format!(in alloc; ":{number}")?.as_bytes())?;
+    }
+    if let Some(columns) = at.columns {
+        let (first, behind) = (columns.start, columns.end);
+        line.extend_from_slice(format!(in alloc; ".{first}-{behind}")?.as_bytes())?;
+    }
+    line.extend_from_slice(b": ")?;
+    Ok(())
+}
+
+/// Says where a text stops short that takes in others.
+pub(crate) fn report_shortfall<H: Host>(
+    alloc: Global,
+    host: &mut H,
+    shortfall: Shortfall,
+) -> Failure<'static> {
+    let Shortfall { reason, site } = shortfall;
+    let Some(site) = site else {
+        return Failure::Incomplete(reason);
+    };
+    let at = Some(Shown {
+        file: site.file.as_slice(),
+        line: Some(site.line),
+        columns: Some(site.columns),
+    });
+    let (number, name) = match reason {
+        Incomplete::NoMemory => return Failure::NoMemory,
+        Incomplete::NoFile(_) => (80, "CannotRead"),
+        Incomplete::TooDeep => (16, "TooDeep"),
+        Incomplete::TooLong => (17, "TooLong"),
+        Incomplete::Syntax => (10, "Syntax"),
+    };
+    let told = Told {
+        number,
+        name,
+        lexeme: b"",
+    };
+    match report_at(alloc, host, at, told) {
+        Ok(()) => Failure::Incomplete(reason),
+        Err(_) => Failure::NoMemory,
+    }
+}
+
+/// Says why a run ended, and answers its exit status.
+pub(crate) fn fail<H: Host>(alloc: Global, host: &mut H, failure: &Failure<'_>) -> u8 {
+    // Where there is no memory for the words, the status stands alone.
+    if let Ok(words) = words_of(alloc, failure) {
+        host.report(words.as_bytes());
+    }
+    match failure {
+        Failure::Said(Wrong::Tree) => WRONG_TREE,
+        _ => FAILED,
+    }
+}
+
+fn words_of(alloc: Global, failure: &Failure<'_>) -> Result<String, AllocError> {
+    match failure {
+        Failure::NoMemory => format!(in alloc; "FATAL ERROR: error 0 NoMemory\n"),
+        Failure::NoInput(path) => {
+            format!(in alloc; "FATAL ERROR: Couldn't open \"{path}\": error 80 CannotRead\n")
+        }
+        Failure::NoOutput(path) => format!(in alloc;
+            "FATAL ERROR: Couldn't open output file {path}: error 81 CannotWrite\n"
+        ),
+        Failure::NoSeed => format!(in alloc; "FATAL ERROR: error 80 CannotRead random\n"),
+        Failure::Word(word) => bad_word(alloc, word),
+        Failure::Incomplete(reason) => incomplete(alloc, reason),
+        Failure::Said(Wrong::Text) => {
+            format!(in alloc; "FATAL ERROR: Unable to parse input tree\n")
+        }
+        Failure::Said(Wrong::Tree) => format!(in alloc; "ERROR: Input tree has errors, aborting\n"),
+        Failure::NotApplied(path) => format!(in alloc; "Failed to apply '{path}'\n"),
+        Failure::TooLong => format!(in alloc; "FATAL ERROR: error 38 TooLarge\n"),
+    }
+}
+
+fn bad_word(alloc: Global, word: &BadWord<'_>) -> Result<String, AllocError> {
+    match word {
+        BadWord::NoMemory => format!(in alloc; "FATAL ERROR: error 0 NoMemory\n"),
+        BadWord::Unknown(word) => format!(in alloc; "Error: unknown option {word}\n"),
+        BadWord::Missing(word) => {
+            format!(in alloc; "Error: dtc's option {word} isn't there in dtman\n")
+        }
+        BadWord::MissingArgument(word, argument) => {
+            format!(in alloc; "Error: dtc's {word} {argument} isn't there in dtman\n")
+        }
+        BadWord::NoArgument(word) => format!(in alloc;
+            "Error: option {word} requires an argument\n"
+        ),
+        BadWord::BadArgument(word, argument) => {
+            format!(in alloc; "Error: option {word} doesn't take {argument}\n")
+        }
+        BadWord::Extra(word) => format!(in alloc; "Error: more than one input: {word}\n"),
+        BadWord::NoOverlay => format!(in alloc; "Error: missing overlay file(s)\n"),
+        BadWord::NoCheck(word) => format!(in alloc;
+            "FATAL ERROR: Unrecognized check name \"{word}\"\n"
+        ),
+        BadWord::Both(one, other) => format!(in alloc;
+            "FATAL ERROR: Can't set both {one} and {other}\n"
+        ),
+    }
+}
+
+fn incomplete(alloc: Global, reason: &Incomplete) -> Result<String, AllocError> {
+    match reason {
+        Incomplete::NoMemory => format!(in alloc; "FATAL ERROR: error 0 NoMemory\n"),
+        Incomplete::NoFile(name) => {
+            let name = std::str::from_utf8(name.as_slice()).unwrap_or("?");
+            format!(in alloc; "FATAL ERROR: Couldn't open \"{name}\": error 80 CannotRead\n")
+        }
+        Incomplete::TooDeep => format!(in alloc; "FATAL ERROR: Includes nested too deeply\n"),
+        Incomplete::TooLong => format!(in alloc; "FATAL ERROR: error 17 TooLong\n"),
+        Incomplete::Syntax => format!(in alloc; "FATAL ERROR: error 10 Syntax in an inclusion\n"),
+    }
+}

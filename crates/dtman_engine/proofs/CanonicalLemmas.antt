@@ -1,0 +1,8 @@
+pub mod HeldBytes
+pub mod Lexing
+pub mod MeaningEdits
+pub mod MeaningLists
+pub mod MeaningPhandles
+pub mod MeaningWhole
+pub mod OneTree
+pub mod Spelling

@@ -1,0 +1,10 @@
+//! What a kernel's log tells of a boot, as a schedule over a plan.
+
+mod flights;
+mod late;
+mod log_line;
+mod naming;
+mod node_name;
+mod tracing;
+
+pub use tracing::{Traced, Unplaced, boot_schedule};
