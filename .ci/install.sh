@@ -1,5 +1,5 @@
 #!/usr/bin/env bash
-# Installs what bin/ has into a folder, and tries it there: the pages against --help and mandoc, the completions in their shells, the C
+# Installs what bin/ has into a folder, and tries it there: the pages, as mandoc shows them, against --help, the completions in their shells, the C
 # examples, what stays after `make uninstall`, the tar ball and the Debian package. Where a tool isn't there, it says what wasn't tried.
 set -euo pipefail
 cd "$(dirname "$0")/.."
@@ -21,15 +21,15 @@ has() {
 }
 
 make -s install PREFIX=/usr DESTDIR="$work"
-python3 .ci/pages.py
-
-for words in "" compile overlay dump plan replay probe why needs drivers trace check explain; do
+for page in "$work"/usr/share/man/man1/dtman*.1; do
+	words=$(basename "$page" .1 | tr - ' ')
 	# shellcheck disable=SC2086
-	bin/dtman $words --help | awk 'length > 80 { exit 1 }' || fail "dtman $words --help has a line of more than 80 columns"
+	bin/$words --help | awk 'length > 80 { exit 1 }' || fail "$words --help has a line of more than 80 columns"
 done
 
 try_pages() {
 	local page said name section
+	python3 .ci/pages.py "$work/usr/share/man"
 	cd "$work/usr/share/man"
 	for page in man?/*; do
 		# mandoc looks for pages that are named where this machine keeps its own
@@ -58,6 +58,11 @@ compile --s|--symbols
 compile --d|--dtc
 compile --dtc -i |sub
 compile --dtc -i sub -i sub |board.dts sub
+set --out |board.dtb hat.dtbo sub
+dtc --sy|--symbols
+dtc -o out.dtb -p 8 |board.dtb board.dts hat.dtbo sub
+fdtoverlay -i |board.dtb hat.dtbo sub
+fdtget -p |board.dtb hat.dtbo sub
 overlay board.dtb |board.dtb hat.dtbo sub
 plan board.dtb |board.drivers sub
 plan --dot |board.dtb hat.dtbo sub

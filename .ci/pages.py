@@ -1,5 +1,8 @@
 #!/usr/bin/env python3
-"""Holds install/description.py, which the man pages and completions are made of, against what `bin/dtman --help` says."""
+"""Holds the man pages in a folder, as mandoc shows them, against what `bin/dtman --help` prints: `pages.py FOLDER`.
+
+Each line that help lists stands in the page of its command, and the forms of lines in dtman-plan(5) are those that help tells.
+"""
 import os
 import re
 import subprocess
@@ -7,53 +10,38 @@ import sys
 
 ROOT = os.path.dirname(os.path.dirname(os.path.realpath(__file__)))
 sys.path.insert(0, f"{ROOT}/install")
-import description as told  # noqa: E402
+import prose  # noqa: E402
 
 
-def sections(*words):
-    """The sections of a page of help: what each lists, with what is said of it."""
-    page = subprocess.run([f"{ROOT}/bin/dtman", *words, "--help"], capture_output=True, text=True, check=True).stdout
-    found, current = {}, None
-    for line in page.splitlines():
-        title = re.fullmatch(r"(Commands|Arguments|Options):", line)
-        entry = re.fullmatch(r" +(\S.*?)(?:  +(\S.*))?", line)
-        if title:
-            current = found[title[1]] = {}
-        elif not line:
-            current = None
-        elif current is not None and entry:
-            current[entry[1]] = entry[2]
-    return page.splitlines()[0], found
+def output(*words):
+    return subprocess.run(words, capture_output=True, text=True, check=True).stdout
 
 
-def operand(it):
-    return (f"[{it.name}]" if it.optional else f"<{it.name}>") + ("..." if it.repeated else "")
+def plain(text):
+    """The words of a text, without the signs that help and pages put around what is left out, named or typed."""
+    return " ".join(re.sub(r"\(1\)|[`<>\[\]()‘’']|\.\.\.", "", text).split())
 
 
-# clap marks an option that is counted.
-def option(it):
-    counted = "..." if it.repeated and not it.value else ""
-    return f"{it.names} <{it.value}>" if it.value else it.names + counted, it.about + (f" [default: {it.default}]" if it.default else "")
+def listed(*words):
+    """The lines that a page of help lists."""
+    return re.findall(r"^  +([-<\[\w].*)", output(f"{ROOT}/bin/dtman", *words, "--help"), re.MULTILINE)
 
 
-def wanted(command):
-    listed = {"Options": dict(map(option, (*command.options, told.HELP)))}
-    if command.operands:
-        listed["Arguments"] = {operand(it): it.about for it in command.operands}
-    return command.about, listed
+def shown(page):
+    return plain(re.sub(".\b", "", output("mandoc", "-T", "utf8", "-O", "width=1000", f"{sys.argv[1]}/{page}")))
 
 
 def main():
-    _, top = sections()
-    top["Commands"].pop("help", None)
-    faults = 0
-    pairs = [("dtman", {"Commands": {it.name: it.about for it in told.COMMANDS}, "Options": dict(map(option, (told.HELP, told.VERSION)))}, top)]
-    pairs += [(it.name, wanted(it), sections(it.name)) for it in told.COMMANDS if it.name in top["Commands"]]
-    for name, described, helped in pairs:
-        if described != helped:
-            faults += 1
-            print(f"{name}: install/description.py says {described}, and --help {helped}", file=sys.stderr)
-    print(f"pages: {len(told.COMMANDS)} commands, {faults} otherwise than --help")
+    told = prose.read()
+    lines = [(f"man1/dtman-{name}.1", line) for name in told["Commands"] for line in listed(name)]
+    lines += [("man1/dtman.1", line) for line in listed() if not line.startswith("help ")]
+    pages = {name: shown(name) for name, _ in lines}
+    faults = [f"{name} hasn't: {line}" for name, line in lines if plain(line) not in pages[name]]
+    typed = re.findall("`([^`]+)`", " ".join(output(f"{ROOT}/bin/dtman", "--help").split()))
+    helped = {it.replace("ok|fail", end) for it in typed for end in ("ok", "fail")}
+    faults += [f"--help hasn't: {line}" for title, it in told["Formats"].items() if title != "Reports" for line, _ in it.items if line not in helped]
+    print("".join(f"{it}\n" for it in faults), end="", file=sys.stderr)
+    print(f"pages: {len(pages)} pages with {len(lines)} lines of --help, {len(faults)} otherwise")
     return 1 if faults else 0
 
 

@@ -5,7 +5,6 @@ set -euo pipefail
 cd "$(dirname "$0")/.."
 prefix=${PREFIX-/usr/local}
 root=${DESTDIR:-}
-version=$(sed -n 's/.*\.version("\([^"]*\)").*/\1/p' crates/dtman_cli/src/grammar.rt)
 # Debian's zsh looks for what packages bring elsewhere.
 zsh_folder=${ZSH_FOLDER:-share/zsh/site-functions}
 # So do its compilers, in a folder for each kind of machine.
@@ -44,10 +43,15 @@ wants_proof() {
 	exit 1
 }
 
-# The pages and completions are made anew, since they are made in a moment.
+# What the program says is its version.
+version() {
+	bin/dtman --version | cut -d ' ' -f 2
+}
+
+# The pages and completions are made of what the program prints by --help, anew, since they are made in a moment.
 make_pages() {
 	rm -rf out/pages
-	python3 install/pages.py out/pages
+	python3 install/pages.py bin/dtman out/pages
 	make_configuration dtman "devicetree compiler and probing core over the caller's bytes"
 	make_configuration dtman_arena "the same over memory of the caller's"
 }
@@ -58,7 +62,7 @@ make_configuration() {
 prefix=\${pcfiledir}/$(sed 's#[^/]*#..#g' <<<"$library_folder/pkgconfig")
 Name: $1
 Description: $2
-Version: $version
+Version: $(version)
 Cflags: -I\${prefix}/include
 Libs: -L\${prefix}/$library_folder -ldtman_view -l$1
 END
@@ -74,16 +78,16 @@ put() {
 
 take_away() {
 	local target
-	make_pages
 	listed | while read -r _ _ target; do rm -f "$root$prefix/$target"; done
-	rm -f "$root$prefix"/{"$library_folder"/libdtman{,_arena,_view}.a,include/dtman{,_arena,_view}.h,"$library_folder"/pkgconfig/dtman{,_arena}.pc,share/man/man3/libdtman.3}
+	rm -f "$root$prefix"/share/man/{man1/dtman{,-*}.1,man3/libdtman.3,man5/dtman-plan.5}
+	rm -f "$root$prefix"/{"$library_folder"/libdtman{,_arena,_view}.a,include/dtman{,_arena,_view}.h,"$library_folder"/pkgconfig/dtman{,_arena}.pc}
 	rm -rf "$root$prefix/share/doc/dtman"
 }
 
 # A tar ball that unpacks to bin/, lib/, include/ and share/, and its checksum. The same files give the same bytes.
 dist() {
 	local name stage
-	name=dtman-$version-$(uname -m)-$(uname -s | tr '[:upper:]' '[:lower:]')
+	name=dtman-$(version)-$(uname -m)-$(uname -s | tr '[:upper:]' '[:lower:]')
 	stage=$(mktemp -d)
 	PREFIX='' DESTDIR=$stage/$name "$0" install
 	(cd "$stage/$name" && find . -type f ! -name SHA256SUMS -printf '%P\n' | LC_ALL=C sort | xargs sha256sum >SHA256SUMS)
@@ -101,7 +105,8 @@ needed_libc() {
 
 # A Debian package. Its maintainer is MAINTAINER, or who git says commits here.
 deb() {
-	local arch stage doc name libraries
+	local arch stage doc name libraries version
+	version=$(version)
 	libraries=lib/$(uname -m)-linux-gnu
 	arch=$(dpkg --print-architecture)
 	stage=$(mktemp -d)

@@ -1,5 +1,5 @@
 #!/usr/bin/env bash
-# Times the view beside libfdt on blobs: run.sh BLOB.. It wants the library (out/libdtman_view.a of crates/dtman_view_c) and libfdt-dev.
+# Times the view beside libfdt on blobs: run.sh BLOB.. It wants the library (bin/libdtman_view.a, by `make library`) and libfdt-dev.
 set -euo pipefail
 cd "$(dirname "$0")/../.."
 archive=${ARCHIVE:-bin/libdtman_view.a}

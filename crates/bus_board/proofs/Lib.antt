@@ -9,7 +9,7 @@ pub mod Moves
 pub mod Openings
 pub mod Paying
 pub mod Rests
-pub mod Seats
+pub mod SeatsInTurn
 pub mod SeatsLemmas
 pub mod Shares
 pub mod Sole

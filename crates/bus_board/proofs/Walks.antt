@@ -12,7 +12,7 @@ use Rattle.bus_core.specs.Ready.{is_ready}
 use Rattle.bus_board.proofs.Allowed.{claim_allowed}
 use Rattle.bus_board.proofs.Histories.{front_trans, front_whole}
 use Rattle.bus_board.proofs.Moves.{Kind, among_push}
-use Rattle.bus_board.proofs.Seats.{among_left, among_right, not-among}
+use Rattle.bus_board.proofs.SeatsInTurn.{among_left, among_right, not-among}
 use Rattle.bus_board.proofs.Tied.{same_made}
 use Rattle.bus_board.specs.Ends.{HasBegun, IsDone}
 use Rattle.bus_board.specs.Learns.{Claimed, Passed}

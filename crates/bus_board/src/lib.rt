@@ -1,4 +1,6 @@
 //! The board: the deferred-probing bus without a lock, one atomic word a device.
+//!
+//! Room: `seats`, a seat of a board behind a pointer that a caller in C may have.
 #![tactic(auto)]
 
 mod board;

@@ -1,4 +1,6 @@
 //! Plans out of trees: driver files, and the devices of a tree with their drivers and suppliers.
+//!
+//! Room: `modules`, a driver file out of what an installation of Linux says of its modules.
 #![tactic(auto)]
 
 mod driver;

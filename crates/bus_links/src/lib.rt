@@ -1,4 +1,6 @@
 //! Plans out of trees by the links of Linux: the second way to a plan, over the same bus.
+//!
+//! Room: `bindings`, what the properties of a device name, by the bindings of Linux.
 #![tactic(auto)]
 
 pub mod bindings;

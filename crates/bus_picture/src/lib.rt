@@ -1,4 +1,6 @@
 //! Pictures of a board's bus: what comes up and what waits for what, as a graph for Graphviz and as a page of HTML.
+//!
+//! Room: `why`, why a device of a plan waits, and what it takes to bind it.
 #![tactic(auto)]
 
 mod arrows;

@@ -1,4 +1,6 @@
 //! Plans of the bus: devices with their drivers and suppliers, and the text file that lists them.
+//!
+//! Room: `reach`, what devices take by their suppliers, theirs and so on, and the cycles among them.
 #![tactic(auto)]
 
 mod consumers;

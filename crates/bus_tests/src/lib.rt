@@ -1,28 +1,32 @@
 //! The worked rows of the bus, as tables: what a row gives is what the definitions say of it, worked by hand.
 //!
-//! The tests stand here, above the crates of the bus, so that no crate is proved a second time for them.
+//! The tests stand here, above the crates of the bus, so that no crate is proved a second time for them. Rooms: `plan`, plans, drivers
+//! and boards; `links`, plans by the links of Linux; `why`, why devices wait, and what Linux says of its modules and boots.
 #![tactic(auto)]
 
 #[cfg(test)]
 mod chains;
+#[cfg(test)]
 mod cores;
+#[cfg(test)]
 mod counts;
 pub mod gate;
+#[cfg(test)]
 mod keepers;
+#[cfg(test)]
 mod late;
-pub mod links;
-pub mod plan;
+#[cfg(test)]
+mod links;
+#[cfg(test)]
+mod plan;
+#[cfg(test)]
 mod registrations;
 pub mod replays;
+#[cfg(test)]
 mod runs;
 pub mod shapes;
+#[cfg(test)]
 mod told;
 pub mod watching;
-pub mod why;
 #[cfg(test)]
-#[cfg(test)]
-#[cfg(test)]
-#[cfg(test)]
-#[cfg(test)]
-#[cfg(test)]
-#[cfg(test)]
+mod why;

@@ -1,7 +1,4 @@
 //! The worked rows of plans, drivers and boards, as tables: what a row gives is what the definitions say of it, worked by hand.
-//!
-//! The tests stand here, above the crates that read the texts of the bus and its board, so that no crate is proved a second time
-//! for them.
 
 #[cfg(test)]
 mod boards;

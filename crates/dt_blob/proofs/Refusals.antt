@@ -1,12 +1,18 @@
 -- Which refusals are the header's.
-use Rattle.std.proofs.Common.{◌≡◌, List, ℕ, Option, Some, None, Result, Ok, Err, ◌⊎◌, refl, ap, sym, subst, ◌∙◌, inl, inr}
+use Rattle.std.proofs.Common.{◌≡◌, ◌≤◌, ◌*◌, ◌/◌, Bool, true, false, arith, length, List, ℕ, Option, Some, None, Result, Ok, Err, ◌⊎◌, refl, ap, sym, subst, ◌∙◌, inl, inr}
 use Rattle.dt_tree.specs.TreeData.{TreeData}
 use Rattle.dt_blob.specs.declared.error.BlobError.{BlobError}
 use Rattle.dt_blob.specs.declared.error.BlobError.TheVariants as errors
-use Rattle.dt_blob.specs.HeaderWords.{header_fault, reserves_of}
+use Rattle.std.specs.Prelude.{◌+◌, ◌%◌, ◌==◌, not, nat_lt, unwrap_or, if◌then◌else◌}
+use Rattle.dt_blob.specs.Blob.{limit}
+use Rattle.dt_blob.specs.Format.{format_version, header_size, magic_number, oldest_version}
+use Rattle.dt_blob.specs.declared.read_error.ReadError.{ReadError}
+use Rattle.dt_blob.specs.declared.read_header.Header.{Header}
+use Rattle.dt_blob.specs.HeaderWords.{IsRefusedAt, fault_at_in, header_fault, header_fault_at, header_of, reserves_of}
 use Rattle.dt_blob.specs.Holds.{HaveNoEnd, Holds}
 use Rattle.dt_blob.specs.Steps.Reading.{Refuses, HasNoEnd, RefusesAll, reserves_at, tree_in}
 use Rattle.dt_blob.proofs.Holding.{held_read, reserves_again}
+use Rattle.dt_blob.proofs.Tests.{below, not_below}
 use Rattle.dt_blob.proofs.Whole.{parts, tree_without_reserves}
 
 memory_by : (e : BlobError) (q : Option TreeData) (t : TreeData) → q ≡ Some t → Refuses e q → e ≡ errors.NoMemory
@@ -70,3 +76,38 @@ end_of e bytes (inr (f, inr r)) s = absurd (let bad : ⊥ = subst (λ (x : BlobE
 
 pub kind_of_ok : {X : Type 0} (x : X) (k : BlobError) (bytes : List ℕ) (t : TreeData) → tree_in bytes ≡ Some t → (Ok x ≡ Err k → header_fault bytes ≡ Some k) × (header_fault bytes ≡ Some k → Ok x ≡ Err k)
 kind_of_ok x k bytes t e = (λ s. absurd (ok_err x k s), λ f. absurd (no_fault_some k (header_fault bytes) f (parts bytes t e).header))
+
+-- ---- the word of a refusal
+
+word_by : (a b c d e f g h i j : Bool)
+    → (if a then 0 else (if b then 20 else (if c then 24 else (if d then 4 else (if e then 4 else (if f then 8 else (if g then 36 else (if h then 12 else (if i then 32 else (if j then 8 else 16)))))))))) ≤ 36
+word_by true b c d e f g h i j = omega arith
+word_by false true c d e f g h i j = omega arith
+word_by false false true d e f g h i j = omega arith
+word_by false false false true e f g h i j = omega arith
+word_by false false false false true f g h i j = omega arith
+word_by false false false false false true g h i j = omega arith
+word_by false false false false false false true h i j = omega arith
+word_by false false false false false false false true i j = omega arith
+word_by false false false false false false false false true j = omega arith
+word_by false false false false false false false false false true = omega arith
+word_by false false false false false false false false false false = omega arith
+
+header_word_at_most : (h : Header) (len : ℕ) → fault_at_in h len ≤ 36
+header_word_at_most h len =
+    word_by (not (h.magic == magic_number)) (nat_lt h.version oldest_version) (nat_lt format_version h.last_compatible) (nat_lt len h.size) (nat_lt h.size header_size)
+    (nat_lt h.size h.structure_at) (nat_lt h.size (h.structure_at + unwrap_or h.structure_size 0)) (nat_lt h.size h.strings_at) (nat_lt h.size (h.strings_at + h.strings_size)) (not (h.structure_at % 4 == 0))
+
+inside_by : (bytes : List ℕ) (large small : Bool) → nat_lt limit (length bytes) ≡ large → nat_lt (length bytes) header_size ≡ small
+    → (if large then limit else (if small then length bytes / 4 * 4 else fault_at_in (header_of bytes) (length bytes))) ≤ length bytes
+inside_by bytes true small l s = let over = below limit (length bytes) l in omega (arith, over)
+inside_by bytes false true l s = omega arith
+inside_by bytes false false l s = let enough = not_below (length bytes) header_size s in omega (arith, enough, header_word_at_most (header_of bytes) (length bytes))
+
+-- it lies in the bytes
+pub header_word_inside : (bytes : List ℕ) → header_fault_at bytes ≤ length bytes
+unfolding header_fault_at
+header_word_inside bytes = inside_by bytes _ _ refl refl
+
+pub behind_header : (bytes : List ℕ) (e : ReadError) → header_fault bytes ≡ None → e.at ≤ length bytes → IsRefusedAt bytes e
+behind_header bytes e f h = (λ s. absurd (no_fault_some e.kind (header_fault bytes) s f), h)

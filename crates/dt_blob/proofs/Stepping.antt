@@ -1,5 +1,5 @@
 -- The reader's loops, a turn at a time.
-use Rattle.std.proofs.Common.{◌≡◌, ℕ, zero, suc, ◌<◌, ◌≤◌, ◌^◌, Bool, true, false, ◌&&◌, ◌==◌, List, [], ◌∷◌, ◌++◌, length, drop, Option, Some, None, refl, ap, sym, ◌∙◌, arith, append_assoc, length-drop}
+use Rattle.std.proofs.Common.{◌≡◌, ℕ, zero, suc, ◌*◌, ◌/◌, ◌<◌, ◌≤◌, ◌^◌, Bool, true, false, ◌&&◌, ◌==◌, List, [], ◌∷◌, ◌++◌, length, drop, Option, Some, None, refl, ap, sym, ◌∙◌, arith, append_assoc, length-drop}
 use Rattle.std.specs.Prelude.{nat_lt, option_and_then, if◌then◌else◌}
 use Rattle.std.specs.Option.{option_map}
 use Rattle.std.proofs.lemmas.Bool.Decides.{nat_tests}
@@ -7,7 +7,7 @@ use Rattle.byteorder.specs.Endian.{big_number}
 use Rattle.dt_tree.specs.NodeData.{NodeData}
 use Rattle.dt_blob.specs.declared.error.BlobError.{BlobError}
 use Rattle.dt_blob.specs.declared.error.BlobError.TheVariants as errors
-use Rattle.dt_blob.specs.HeaderWords.{header_of, fault_in, header_fault}
+use Rattle.dt_blob.specs.HeaderWords.{header_of, fault_in, fault_at_in, header_fault, header_fault_at}
 use Rattle.dt_blob.specs.Token.{Token, begin_node, end_node, property, nop, end}
 use Rattle.dt_blob.specs.Steps.NodeBuilders.{State, NodeSoFar, begun, inside, behind, ended, run, advance, is_end, root_of, root_from}
 use Rattle.dt_blob.specs.Steps.Reading.{Refuses, token_by, token_at, tokens_in, tokens_at, left, reserves_in, reserves_at}
@@ -28,6 +28,25 @@ too_large bytes h = let large : nat_lt (2 ^ 28) (length bytes) ≡ true = grind 
 pub too_short : (bytes : List ℕ) → length bytes ≤ 2 ^ 28 → length bytes < 40 → header_fault bytes ≡ Some errors.Truncated
 unfolding header_fault
 too_short bytes h k =
+    let large : nat_lt (2 ^ 28) (length bytes) ≡ false = grind (arith, nat_tests) in
+    let small : nat_lt (length bytes) 40 ≡ true = grind (arith, nat_tests) in
+    rw (large, small) refl
+
+-- the word that shows it
+pub passed_at : (bytes : List ℕ) → length bytes ≤ 2 ^ 28 → 40 ≤ length bytes → header_fault_at bytes ≡ fault_at_in (header_of bytes) (length bytes)
+unfolding header_fault_at
+passed_at bytes h k =
+    let large : nat_lt (2 ^ 28) (length bytes) ≡ false = grind (arith, nat_tests) in
+    let small : nat_lt (length bytes) 40 ≡ false = grind (arith, nat_tests) in
+    rw (large, small) refl
+
+pub too_large_at : (bytes : List ℕ) → 2 ^ 28 < length bytes → header_fault_at bytes ≡ 2 ^ 28
+unfolding header_fault_at
+too_large_at bytes h = let large : nat_lt (2 ^ 28) (length bytes) ≡ true = grind (arith, nat_tests) in rw large refl
+
+pub too_short_at : (bytes : List ℕ) → length bytes ≤ 2 ^ 28 → length bytes < 40 → header_fault_at bytes ≡ length bytes / 4 * 4
+unfolding header_fault_at
+too_short_at bytes h k =
     let large : nat_lt (2 ^ 28) (length bytes) ≡ false = grind (arith, nat_tests) in
     let small : nat_lt (length bytes) 40 ≡ true = grind (arith, nat_tests) in
     rw (large, small) refl

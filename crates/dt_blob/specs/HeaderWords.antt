@@ -1,8 +1,9 @@
 -- The header of a blob: Devicetree Specification v0.4, section 5.2.
-use Rattle.std.specs.Prelude.{ℕ, ◌+◌, ◌%◌, Bool, not, ◌&&◌, ◌||◌, ◌==◌, nat_lt, nat_le, List, length, drop, take, Option, Some, None, unwrap_or, if◌then◌else◌}
+use Rattle.std.specs.Prelude.{◌≡◌, ◌≤◌, ℕ, ◌+◌, ◌*◌, ◌/◌, ◌%◌, Bool, not, ◌&&◌, ◌||◌, ◌==◌, nat_lt, nat_le, List, length, drop, take, Option, Some, None, unwrap_or, Result, Ok, Err, if◌then◌else◌}
 use Rattle.byteorder.specs.Endian.{big_number}
 use Rattle.dt_blob.specs.declared.error.BlobError.{BlobError}
 use Rattle.dt_blob.specs.declared.error.BlobError.TheVariants.{TooLarge, Truncated, BadMagic, BadVersion, BadLayout}
+use Rattle.dt_blob.specs.declared.read_error.ReadError.{ReadError}
 use Rattle.dt_blob.specs.declared.read_header.Header.{Header}
 use Rattle.dt_blob.specs.Format.{magic_number, header_size, format_version, oldest_version}
 use Rattle.dt_blob.specs.Blob.{limit}
@@ -36,6 +37,19 @@ is_laid_out h =
     nat_le header_size h.size && nat_le (h.structure_at + unwrap_or h.structure_size 0) h.size && nat_le (h.strings_at + h.strings_size) h.size
     && h.structure_at % 4 == 0 && h.reserves_at % 8 == 0
 
+-- the word of the header that shows first that the blocks aren't laid out so: its size, then the places and sizes of the blocks
+abbrev pub misplaced_at : Header → ℕ
+misplaced_at h =
+    if nat_lt h.size header_size then 4
+    else (if nat_lt h.size h.structure_at then 8
+    else (if nat_lt h.size (h.structure_at + unwrap_or h.structure_size 0) then 36
+    else (if nat_lt h.size h.strings_at then 12
+    else (if nat_lt h.size (h.strings_at + h.strings_size) then 32
+    else (if not (h.structure_at % 4 == 0) then 8 else 16)))))
+
+abbrev pub IsMisplaced : Header → ReadError → Type 0
+IsMisplaced h e = (e.kind ≡ BadLayout) × (e.at ≡ misplaced_at h)
+
 -- the first fault of a header that stands before so many bytes
 abbrev pub fault_in : Header → ℕ → Option BlobError
 fault_in h len =
@@ -44,12 +58,36 @@ fault_in h len =
     else (if nat_lt len h.size then Some Truncated
     else (if not (is_laid_out h) then Some BadLayout else None)))
 
+-- the word that shows it
+abbrev pub fault_at_in : Header → ℕ → ℕ
+fault_at_in h len =
+    if not (h.magic == magic_number) then 0
+    else (if nat_lt h.version oldest_version then 20
+    else (if nat_lt format_version h.last_compatible then 24
+    else (if nat_lt len h.size then 4 else misplaced_at h)))
+
 -- the first fault of the bytes that the header shows, in the order of the tests
 unfoldable pub header_fault : List ℕ → Option BlobError
 header_fault bytes =
     if nat_lt limit (length bytes) then Some TooLarge
     else (if nat_lt (length bytes) header_size then Some Truncated
     else fault_in (header_of bytes) (length bytes))
+
+-- how many bytes stand before the word that shows it: of too many bytes the first that is too many, of too few the last word
+unfoldable pub header_fault_at : List ℕ → ℕ
+header_fault_at bytes =
+    if nat_lt limit (length bytes) then limit
+    else (if nat_lt (length bytes) header_size then length bytes / 4 * 4
+    else fault_at_in (header_of bytes) (length bytes))
+
+-- what was answered, by the kind of a refusal alone
+abbrev pub kinds : {X : Type 0} → Result X ReadError → Result X BlobError
+kinds (Ok x) = Ok x
+kinds (Err e) = Err e.kind
+
+-- a refusal of the bytes is of a word of theirs, and one of the header of the word that shows it
+abbrev pub IsRefusedAt : List ℕ → ReadError → Type 0
+IsRefusedAt bytes e = (header_fault bytes ≡ Some e.kind → e.at ≡ header_fault_at bytes) × (e.at ≤ length bytes)
 
 -- the bytes of the blob that begin at a place, and the bytes of a block
 abbrev pub from_place : ℕ → ℕ → List ℕ → List ℕ

@@ -1,10 +1,10 @@
 //! The blocks of a blob.
 ghost use Rattle.std.specs.Prelude.{◌≡◌, ◌≤◌, ◌+◌, length, MatchResult, None, Some};
 ghost use Rattle.dt_blob.specs.Blocks.{AreBlocks};
-ghost use Rattle.dt_blob.specs.HeaderWords.{block, header_fault};
+ghost use Rattle.dt_blob.specs.HeaderWords.{block, header_fault, header_fault_at};
 
-use crate::error::BlobError;
 use crate::parts::first;
+use crate::read_error::ReadError;
 use crate::read_header::read_header;
 use dt_tree::behind;
 
@@ -19,6 +19,10 @@ pub struct BlobBlocks<'a> {
     pub boot_cpu: u32,
     /// Whether the header tells the size of the structure block.
     pub is_sized: bool,
+    /// How many bytes of the blob stand before the reserved memory.
+    pub reserves_at: usize,
+    /// How many bytes of the blob stand before the structure block.
+    pub structure_at: usize,
 }
 
 fn block(bytes: &[u8], place: u32, size: u32) -> &[u8]
@@ -29,8 +33,8 @@ fn block(bytes: &[u8], place: u32, size: u32) -> &[u8]
 }
 
 /// The blocks, by the header alone: the first of its faults (`TooLarge`, `Truncated`, `BadMagic`, `BadVersion`, `BadLayout`) else.
-pub fn blocks_in(bytes: &[u8]) -> Result<BlobBlocks<'_>, BlobError>
-    ensures { MatchResult result (λ b. AreBlocks bytes.now b × (header_fault bytes.now ≡ None)) (λ e. header_fault bytes.now ≡ Some e) }
+pub fn blocks_in(bytes: &[u8]) -> Result<BlobBlocks<'_>, ReadError>
+    ensures { MatchResult result (λ b. AreBlocks bytes.now b × (header_fault bytes.now ≡ None)) (λ e. (header_fault bytes.now ≡ Some e.kind) × (e.at ≡ header_fault_at bytes.now)) }
 {
     let header = read_header(bytes)?;
     let blob = first(bytes, header.size as usize);
@@ -43,5 +47,7 @@ pub fn blocks_in(bytes: &[u8]) -> Result<BlobBlocks<'_>, BlobError>
         strings: block(bytes, header.strings_at, header.strings_size),
         boot_cpu: header.boot_cpu,
         is_sized: header.structure_size.is_some(),
+        reserves_at: header.reserves_at as usize,
+        structure_at: header.structure_at as usize,
     })
 }

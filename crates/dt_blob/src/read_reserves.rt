@@ -4,19 +4,21 @@ ghost use Rattle.dt_blob.specs.Steps.Reading.{HasNoEnd, reserves_at};
 
 use crate::error::BlobError;
 use crate::parts::long;
+use crate::read_error::{ReadError, Wanted, refused};
 use crate::sizing::RESERVATION_SIZE;
 use dt_tree::behind;
 use std::alloc::Global;
 
 /// The addresses and sizes before the first pair of zeros; `BadLayout` where none comes.
-pub(crate) fn read_reserves(alloc: Global, bytes: &[u8]) -> Result<Vec<(u64, u64)>, BlobError>
-    ensures { MatchResult result (λ v. reserves_at bytes.now ≡ Some v.items) (λ e. (e ≡ BlobError.NoMemory) ⊎ HasNoEnd e (reserves_at bytes.now)) }
+pub(crate) fn read_reserves(alloc: Global, bytes: &[u8]) -> Result<Vec<(u64, u64)>, ReadError>
+    ensures { MatchResult result (λ v. reserves_at bytes.now ≡ Some v.items) (λ e. (e.kind ≡ BlobError.NoMemory) ⊎ HasNoEnd e.kind (reserves_at bytes.now)) }
 {
     let mut reserves = Vec::new(alloc);
     let mut rest = bytes;
     'pairs: loop {
         if rest.len() < RESERVATION_SIZE {
-            return Err(BlobError::BadLayout);
+            let before = bytes.len().saturating_sub(rest.len());
+            return Err(refused(BlobError::BadLayout, before, Wanted::ReservesEnd));
         }
         let address = long(rest);
         let size = long(behind(rest, 8));

@@ -4,6 +4,7 @@ ghost use Rattle.dt_blob.specs.Steps.Reading.{Gives, token_of, zero_in, padded, 
 
 use crate::error::BlobError;
 use crate::parts::{first, word};
+use crate::read_error::{ReadError, Wanted, refused};
 use crate::token_words::{BEGIN_NODE_WORD, END_NODE_WORD, END_WORD, NOP_WORD, PROPERTY_WORD};
 use bstr::ByteSlice;
 use dt_tree::behind;
@@ -17,6 +18,9 @@ pub enum BlobToken<'a> {
     Nop,
     End,
 }
+
+// The bytes of a word.
+const WORD: usize = 4;
 
 // A length with the padding up to a multiple of four.
 fn padded(length: usize) -> usize
@@ -34,31 +38,31 @@ fn zero_place(bytes: &[u8]) -> Option<usize>
     bytes.find_byte(0)
 }
 
-fn begin(bytes: &[u8]) -> Result<(BlobToken<'_>, &[u8]), BlobError>
+fn begin(bytes: &[u8]) -> Result<(BlobToken<'_>, &[u8]), ReadError>
     ensures gives { Gives (λ x. (token_of x.0, x.1.now)) result (begin_at bytes.now) }
     ensures shorter { IfOk result (λ x. length x.1.now ≤ length bytes.now) }
     ensures none { OnErr result (begin_at bytes.now ≡ None) }
 {
     let Some(end) = zero_place(bytes) else {
-        return Err(BlobError::BadString);
+        return Err(refused(BlobError::BadString, WORD, Wanted::NodeNameEnd));
     };
     let size = padded(end + 1);
     if bytes.len() < size {
-        return Err(BlobError::BadToken);
+        return Err(refused(BlobError::BadToken, WORD, Wanted::NodeNameInBlock));
     }
     Ok((BlobToken::BeginNode(first(bytes, end)), behind(bytes, size)))
 }
 
-fn string(strings: &[u8], place: usize) -> Result<&[u8], BlobError>
+fn string(strings: &[u8], place: usize) -> Result<&[u8], ReadError>
     ensures gives { Gives (λ s. s.now) result (string_at strings.now place) }
     ensures none { OnErr result (string_at strings.now place ≡ None) }
 {
     if strings.len() < place {
-        return Err(BlobError::BadString);
+        return Err(refused(BlobError::BadString, 2 * WORD, Wanted::NamePlace));
     }
     let rest = behind(strings, place);
     match zero_place(rest) {
-        None => Err(BlobError::BadString),
+        None => Err(refused(BlobError::BadString, 2 * WORD, Wanted::NameEnd)),
         Some(end) => Ok(first(rest, end)),
     }
 }
@@ -68,7 +72,7 @@ fn value<'a>(
     size: usize,
     place: usize,
     bytes: &'a [u8],
-) -> Result<(BlobToken<'a>, &'a [u8]), BlobError>
+) -> Result<(BlobToken<'a>, &'a [u8]), ReadError>
     requires { size < 2 ^ 32 }
     ensures gives { Gives (λ x. (token_of x.0, x.1.now)) result (value_at strings.now size place bytes.now) }
     ensures shorter { IfOk result (λ x. length x.1.now ≤ length bytes.now) }
@@ -76,7 +80,7 @@ fn value<'a>(
 {
     let end = padded(size);
     if bytes.len() < end {
-        return Err(BlobError::BadToken);
+        return Err(refused(BlobError::BadToken, WORD, Wanted::ValueInBlock));
     }
     let name = string(strings, place)?;
     Ok((
@@ -85,13 +89,13 @@ fn value<'a>(
     ))
 }
 
-fn property<'a>(strings: &'a [u8], bytes: &'a [u8]) -> Result<(BlobToken<'a>, &'a [u8]), BlobError>
+fn property<'a>(strings: &'a [u8], bytes: &'a [u8]) -> Result<(BlobToken<'a>, &'a [u8]), ReadError>
     ensures gives { Gives (λ x. (token_of x.0, x.1.now)) result (property_at strings.now bytes.now) }
     ensures shorter { IfOk result (λ x. length x.1.now ≤ length bytes.now) }
     ensures none { OnErr result (property_at strings.now bytes.now ≡ None) }
 {
     if bytes.len() < 8 {
-        return Err(BlobError::BadToken);
+        return Err(refused(BlobError::BadToken, WORD, Wanted::PropertyWords));
     }
     let size = word(bytes) as usize;
     let place = word(behind(bytes, 4)) as usize;
@@ -100,15 +104,15 @@ fn property<'a>(strings: &'a [u8], bytes: &'a [u8]) -> Result<(BlobToken<'a>, &'
 
 /// The token at the front of the block, and what follows it.
 ///
-/// A cut token is `BadToken`, a name without its zero byte `BadString`.
+/// A cut token is `BadToken`, a name without its zero byte `BadString`; the place is counted from the token's first byte.
 #[tactic(auto, unfolding(crate::specs::Steps::Reading::token_at))]
-pub fn token<'a>(strings: &'a [u8], bytes: &'a [u8]) -> Result<(BlobToken<'a>, &'a [u8]), BlobError>
+pub fn token<'a>(strings: &'a [u8], bytes: &'a [u8]) -> Result<(BlobToken<'a>, &'a [u8]), ReadError>
     ensures gives { Gives (λ x. (token_of x.0, x.1.now)) result (token_at strings.now bytes.now) }
     ensures shorter { IfOk result (λ x. length x.1.now < length bytes.now) }
     ensures none { OnErr result (token_at strings.now bytes.now ≡ None) }
 {
     if bytes.len() < 4 {
-        return Err(BlobError::BadToken);
+        return Err(refused(BlobError::BadToken, 0, Wanted::TokenInBlock));
     }
     let rest = behind(bytes, 4);
     match word(bytes) {
@@ -117,6 +121,6 @@ pub fn token<'a>(strings: &'a [u8], bytes: &'a [u8]) -> Result<(BlobToken<'a>, &
         PROPERTY_WORD => property(strings, rest),
         NOP_WORD => Ok((BlobToken::Nop, rest)),
         END_WORD => Ok((BlobToken::End, rest)),
-        _ => Err(BlobError::BadToken),
+        _ => Err(refused(BlobError::BadToken, 0, Wanted::TokenWord)),
     }
 }

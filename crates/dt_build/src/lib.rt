@@ -1,6 +1,7 @@
 //! Trees out of devicetree sources: edits, phandles, references, symbols and a plugin's fixups.
 //!
-//! The Devicetree Specification v0.4, chapter 6 and section 2.3.3, and `dt_source::tree_meaning` say what a source means.
+//! The Devicetree Specification v0.4, chapter 6 and section 2.3.3, and `dt_source::tree_meaning` say what a source means. Rooms:
+//! `edit`, its statements, done to a live tree; `resolve`, the phandles and references of what stands then.
 #![tactic(auto)]
 
 mod building;

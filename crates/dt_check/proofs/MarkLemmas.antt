@@ -1,6 +1,6 @@
 -- The classes of the names that were seen: what has none of them is no name.
-use Rattle.std.proofs.Common.{◌≡◌, ℕ, ◌+◌, ◌<◌, ◌≤◌, Bool, true, false, List, [], ◌∷◌, ◌++◌, length, get_or, set, take, sym, ◌∙◌, ap, refl, arith, inl, inr}
-use Rattle.std.specs.Prelude.{All}
+use Rattle.std.proofs.Common.{◌≡◌, ℕ, ◌+◌, ◌<◌, ◌≤◌, Bool, true, false, List, [], ◌∷◌, ◌++◌, length, get_or, set, take, Option, Some, None, sym, ◌∙◌, ap, refl, arith, inl, inr}
+use Rattle.std.specs.Prelude.{All, is_some}
 use Rattle.std.specs.List.{AllByRecursion}
 use Rattle.std.specs.Str.{bytes_eq}
 use Rattle.std.proofs.lemmas.Bool.{cases_eq}
@@ -8,6 +8,7 @@ use Rattle.std.proofs.lemmas.List.{get_or-set_same, get_or-set_other, length-set
 use Rattle.std.proofs.lemmas.List.Elements.{All-push, All-nil, recursion_from_All}
 use Rattle.std.proofs.lemmas.Slice.Eq.{bytes_eq-Decides}
 use Rattle.dt_tree.specs.declared.property.Property.{Property}
+use Rattle.dt_tree.specs.PathMap.{value_of}
 use Rattle.dt_check.specs.Cells.{has}
 use Rattle.dt_check.specs.Private.Marks.{class_of, is_marked, AreMarked}
 
@@ -18,7 +19,7 @@ at-class classes at class inside e = elim (cases_eq class at) [
 ]
 
 -- one property more
-pub marked-more : (ps : List Property) (p : Property) (classes : List Bool) (at : ℕ) → AreMarked ps classes → at ≡ class_of p.name → at < 64 → AreMarked (ps ++ p ∷ []) (set classes at true)
+pub marked-more : (ps : List Property) (p : Property) (classes : List Bool) (at : ℕ) → AreMarked ps classes → at ≡ class_of p.name → at < 128 → AreMarked (ps ++ p ∷ []) (set classes at true)
 marked-more ps p classes at marked is inside = record {
   seen = All-push (λ (q : Property). is_marked (set classes at true) q.name ≡ true) ps p old own;
   room = length-set classes at true ∙ marked.room;
@@ -46,3 +47,11 @@ unmarked-each (p ∷ ps) classes name h e = unmarked-by p ps classes name (bytes
 -- a name whose class no name has is none of them
 pub unmarked : (ps : List Property) (classes : List Bool) (name : List ℕ) → AreMarked ps classes → is_marked classes name ≡ false → has ps name ≡ false
 unmarked ps classes name marked e = unmarked-each ps classes name (recursion_from_All (λ (p : Property). is_marked classes p.name ≡ true) ps marked.seen) e
+
+-- what isn't there has no value
+no-value : (o : Option (List ℕ)) → is_some o ≡ false → o ≡ None
+no-value None e = refl
+no-value (Some v) e = absurd (cc)
+
+pub unmarked-value : (ps : List Property) (classes : List Bool) (name : List ℕ) → AreMarked ps classes → is_marked classes name ≡ false → value_of ps name ≡ None
+unmarked-value ps classes name marked e = no-value (value_of ps name) (unmarked ps classes name marked e)

@@ -1,3 +1,4 @@
 pub mod Marks
 -- What only the contracts of private functions cite: a reader of the public ones needs none of it.
 pub mod Places
+pub mod Traits

@@ -1,9 +1,8 @@
 //! Where a device is on its bus, by its unit address.
 ghost use Rattle.std.specs.Prelude.{◌≡◌};
 ghost use Rattle.dt_check.specs.Addresses.{number_in, translated, simple_number, simple_fault, is_missing, has_entries, no_reg_fault, first_address, without_own, i2c_fault, spi_fault, unit_fault_by, bits_fault, first_bits_fault, i2c_bits_fault};
-ghost use Rattle.dt_check.specs.Cells.{cells_of};
+ghost use Rattle.dt_check.specs.Cells.{address_cells, cells_of};
 
-use crate::buses::{is_i2c, is_simple};
 use crate::cells::{cell_from, next_cell};
 use crate::fault::Fault;
 use crate::here::{Here, has};
@@ -45,12 +44,13 @@ fn translated(node: &Node, above: &Node) -> Option<u64>
     number_in(behind(value.as_slice(), own), address_cells(above))
 }
 
-fn simple_number(node: &Node, above: &Node) -> Option<u64>
+fn simple_number(node: &Node, above: &Node, cells: u32) -> Option<u64>
+    requires { cells ≡ address_cells above.now.properties }
     ensures { result ≡ simple_number node.now above.now }
 {
     match node.value(b"reg") {
         None => translated(node, above),
-        Some(value) => number_in(value.as_slice(), address_cells(above)),
+        Some(value) => number_in(value.as_slice(), cells),
     }
 }
 
@@ -73,10 +73,11 @@ fn has_entries(node: &Node) -> bool
 }
 
 // A device of a bus below the root, which is no bus itself, without an address.
-fn is_missing(node: &Node, above: &Node) -> bool
-    ensures { result ≡ is_missing node.now above.now }
+fn is_missing(here: &Here<'_>, above: &Node) -> bool
+    ensures { result ≡ is_missing here.now.node above.now }
 {
-    !has(node, b"reg") && !has_entries(node) && !above.name_bytes().is_empty() && !is_simple(node)
+    let node = here.node();
+    !has(node, b"reg") && !has_entries(node) && !above.name_bytes().is_empty() && !here.is_simple()
 }
 
 /// A device on a simple bus.
@@ -86,13 +87,13 @@ pub fn simple_fault(here: &Here<'_>) -> Option<Fault<'static>>
     let Some(above) = here.above() else {
         return None;
     };
-    if !is_simple(above) {
+    if !here.is_below_simple() {
         return None;
     }
-    if is_missing(here.node(), above) {
+    if is_missing(here, above) {
         return Some(Fault::of_node(Message::NoAddress(Bus::Simple)));
     }
-    match simple_number(here.node(), above) {
+    match simple_number(here.node(), above, here.outer_address_cells()) {
         None => None,
         Some(number) => unit_fault_by(here.node(), Bus::Simple, number),
     }
@@ -129,10 +130,7 @@ fn without_own(address: u32) -> u32
 pub fn i2c_fault(here: &Here<'_>) -> Option<Fault<'static>>
     ensures { result ≡ i2c_fault here.now }
 {
-    let Some(above) = here.above() else {
-        return None;
-    };
-    if !is_i2c(above) {
+    if !here.is_below_i2c() {
         return None;
     }
     match first_address(here.node()) {
@@ -188,10 +186,7 @@ fn first_bits_fault(value: &[u8]) -> Option<Fault<'static>>
 pub fn i2c_bits_fault(here: &Here<'_>) -> Option<Fault<'static>>
     ensures { result ≡ i2c_bits_fault here.now }
 {
-    let Some(above) = here.above() else {
-        return None;
-    };
-    if !is_i2c(above) {
+    if !here.is_below_i2c() {
         return None;
     }
     match here.value(b"reg") {

@@ -2,22 +2,21 @@
 ghost use Rattle.std.specs.Prelude.{◌≡◌};
 ghost use Rattle.dt_check.specs.Bridges.{is_bridge, is_used, wanted_address, wanted_size, bridge_address_fault, bridge_size_fault, spi_name_fault};
 
-use crate::buses::{is_i2c, is_pci, is_simple, is_spi, is_spi_like};
 use crate::fault::Fault;
 use crate::here::{Here, children, has};
 use crate::message::{Bus, Message};
 use crate::reg::{address_cells, size_cells};
 use dt_tree::Node;
 
-/// Whether a node is a bus of this kind.
-pub fn is_bridge(node: &Node, bus: Bus) -> bool
-    ensures { result ≡ is_bridge bus node.now }
+// Whether the node is a bus of this kind.
+fn is_bridge(here: &Here<'_>, bus: Bus) -> bool
+    ensures { result ≡ is_bridge bus here.now.node }
 {
     match bus {
-        Bus::Pci => is_pci(node),
-        Bus::Simple => is_simple(node),
-        Bus::I2c => is_i2c(node),
-        Bus::Spi => is_spi(node),
+        Bus::Pci => here.is_pci(),
+        Bus::Simple => here.is_simple(),
+        Bus::I2c => here.is_i2c(),
+        Bus::Spi => here.is_spi(),
     }
 }
 
@@ -56,7 +55,7 @@ pub fn bridge_address_fault(here: &Here<'_>, bus: Bus) -> Option<Fault<'static>>
     ensures { result ≡ bridge_address_fault bus here.now }
 {
     let node = here.node();
-    if !is_used(node, bus) || !is_bridge(node, bus) {
+    if !is_used(node, bus) || !is_bridge(here, bus) {
         return None;
     }
     if address_cells(node) == wanted_address(node, bus) {
@@ -70,7 +69,7 @@ pub fn bridge_size_fault(here: &Here<'_>, bus: Bus) -> Option<Fault<'static>>
     ensures { result ≡ bridge_size_fault bus here.now }
 {
     let node = here.node();
-    if !is_used(node, bus) || !is_bridge(node, bus) {
+    if !is_used(node, bus) || !is_bridge(here, bus) {
         return None;
     }
     if size_cells(node) == wanted_size(bus) {
@@ -84,7 +83,7 @@ pub fn spi_name_fault(here: &Here<'_>) -> Option<Fault<'static>>
     ensures { result ≡ spi_name_fault here.now }
 {
     let node = here.node();
-    if is_spi_like(node) && has(node, b"reg") {
+    if here.is_spi_like() && has(node, b"reg") {
         return Some(Fault::of_node(Message::BridgeName(Bus::Spi)));
     }
     None

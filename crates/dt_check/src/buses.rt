@@ -1,10 +1,11 @@
-//! Which bus a node is.
+//! Which bus a node is, found once of each: rules ask `Here`. What its properties may be named is known by then.
 ghost use Rattle.std.specs.Prelude.{◌≡◌};
 ghost use Rattle.std.specs.List.{list_any};
-ghost use Rattle.dt_check.specs.Buses.{is_pci, is_simple, is_i2c, is_spi_like, is_spi, starts_spi, has_spi_property, is_called, is_provider};
+ghost use Rattle.dt_check.specs.Buses.{is_pci, is_simple, is_i2c, is_spi_like, starts_spi, has_spi_property, is_called, is_provider};
+ghost use Rattle.dt_check.specs.Private.Marks.{AreMarked};
 
-use crate::here::{children, has};
-use crate::reg::{address_cells, size_cells};
+use crate::here::children;
+use crate::marks::Marks;
 use crate::texts::{has_string, is_same};
 use crate::unit::base_name;
 use dt_tree::{Node, Property};
@@ -17,27 +18,29 @@ pub fn is_called(node: &Node, name: &[u8]) -> bool
 }
 
 /// Whether a node is a bridge to PCI.
-pub fn is_pci(node: &Node) -> bool
+pub(crate) fn is_pci(node: &Node, marks: Marks) -> bool
+    requires { AreMarked node.now.properties marks.classes }
     ensures { result ≡ is_pci node.now }
 {
-    match node.value(b"device_type") {
+    match marks.value(node, b"device_type") {
         None => false,
         Some(value) => is_same(value.as_slice(), b"pci\0"),
     }
 }
 
 /// Whether a node is a bus whose devices are found without it.
-pub fn is_simple(node: &Node) -> bool
+pub(crate) fn is_simple(node: &Node, marks: Marks) -> bool
+    requires { AreMarked node.now.properties marks.classes }
     ensures { result ≡ is_simple node.now }
 {
-    match node.value(b"compatible") {
+    match marks.value(node, b"compatible") {
         None => false,
         Some(value) => has_string(value.as_slice(), b"simple-bus"),
     }
 }
 
 /// Whether a node is an I2C bus.
-pub fn is_i2c(node: &Node) -> bool
+pub(crate) fn is_i2c(node: &Node) -> bool
     ensures { result ≡ is_i2c node.now }
 {
     let name = base_name(node.name_bytes());
@@ -70,27 +73,22 @@ fn any_spi(nodes: &[Node]) -> bool
     nodes.iter().any(|node| has_spi_property(node))
 }
 
-/// Whether a node is an SPI bus without the name of one.
-pub fn is_spi_like(node: &Node) -> bool
+/// Whether a node is an SPI bus without the name of one: may look at all its children.
+pub(crate) fn is_spi_like(node: &Node, marks: Marks) -> bool
+    requires { AreMarked node.now.properties marks.classes }
     ensures { result ≡ is_spi_like node.now }
 {
     !children(node).is_empty()
         && !is_called(node, b"spi")
-        && address_cells(node) == 1
-        && size_cells(node) == 0
+        && marks.address_cells(node) == 1
+        && marks.size_cells(node) == 0
         && any_spi(children(node))
 }
 
-/// Whether a node is an SPI bus: may look at all its children. Of a node of a survey it is known (`Placed::is_spi`, `Here::is_below_spi`).
-pub fn is_spi(node: &Node) -> bool
-    ensures { result ≡ is_spi node.now }
-{
-    is_called(node, b"spi") || is_spi_like(node)
-}
-
 /// Whether a node is the parent of interrupts.
-pub fn is_provider(node: &Node) -> bool
+pub(crate) fn is_provider(node: &Node, marks: Marks) -> bool
+    requires { AreMarked node.now.properties marks.classes }
     ensures { result ≡ is_provider node.now }
 {
-    has(node, b"interrupt-controller") || has(node, b"interrupt-map")
+    marks.has(node, b"interrupt-controller") || marks.has(node, b"interrupt-map")
 }

@@ -2,7 +2,6 @@
 ghost use Rattle.std.specs.Prelude.{◌≡◌};
 ghost use Rattle.dt_check.specs.Chosen.{is_named, controller_fault, place_fault, bootargs_fault, old_stdout_fault, stdout_name, stdout_fault, is_parent_without, gpio_fault, is_gpio, ends_with, names_fault};
 
-use crate::buses::is_provider;
 use crate::fault::Fault;
 use crate::here::{Here, has};
 use crate::message::Message;
@@ -92,7 +91,7 @@ pub fn stdout_fault(here: &Here<'_>) -> Option<Fault<'static>>
 pub fn is_parent_without(here: &Here<'_>, name: &[u8], message: Message) -> Option<Fault<'static>>
     ensures { result ≡ is_parent_without name.now message here.now }
 {
-    if !is_provider(here.node()) || has(here.node(), name) {
+    if !here.is_provider() || has(here.node(), name) {
         return None;
     }
     Some(Fault::of_node(message))

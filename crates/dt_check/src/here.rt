@@ -6,6 +6,8 @@ ghost use Rattle.dt_tree.specs.NodeData.{nodes_of};
 ghost use Rattle.dt_check.specs.Cells.{has, number_of};
 
 use crate::placed::Placed;
+use crate::texts::is_same;
+use crate::traits::Traits;
 use dt_tree::{Bytes, Node, cell_in};
 use std::marker::Model;
 
@@ -14,20 +16,16 @@ use std::marker::Model;
 pub struct Here<'t> {
     node: &'t Node,
     above: Option<&'t Node>,
-    // whether the node is a port
-    port: bool,
-    // whether the one above it is
-    below_port: bool,
-    // whether that is an SPI bus
-    below_spi: bool,
+    // what is known of the node
+    own: Traits,
+    // and of the one above it
+    outer: Traits,
 }
 
 impl<'t> Model for Here<'t> {
-    ghost use Rattle.std.specs.Prelude.{◌≡◌, false};
-    ghost use Rattle.std.specs.Option.{option_copied, option_map_or};
+    ghost use Rattle.std.specs.Option.{option_copied};
     ghost use Rattle.dt_check.specs.Nodes.{HereData, coded_here};
-    ghost use Rattle.dt_check.specs.Buses.{is_spi};
-    ghost use Rattle.dt_check.specs.Ports.{is_port};
+    ghost use Rattle.dt_check.specs.Private.Traits.{AreTraits, AreOuter};
 
     ghost Value = { HereData };
 
@@ -35,15 +33,14 @@ impl<'t> Model for Here<'t> {
 
     ghost view = { λ h. record { node = h.node.now; above = option_copied h.above } };
 
-    ghost invariant = { λ h. (h.port ≡ is_port h.node.now)
-        × (h.below_port ≡ option_map_or is_port (option_copied h.above) false)
-        × (h.below_spi ≡ option_map_or is_spi (option_copied h.above) false) };
+    ghost invariant = { λ h. AreTraits h.node.now h.own × AreOuter (option_copied h.above) h.outer };
 }
 
 impl<'t> Here<'t> {
     ghost use Rattle.std.specs.Prelude.{false};
     ghost use Rattle.std.specs.Option.{option_map, option_map_or};
-    ghost use Rattle.dt_check.specs.Buses.{is_spi};
+    ghost use Rattle.dt_check.specs.Buses.{is_pci, is_simple, is_i2c, is_spi_like, is_spi, is_provider};
+    ghost use Rattle.dt_check.specs.Cells.{address_cells, size_cells};
     ghost use Rattle.dt_check.specs.Ports.{is_port};
 
     /// The node at its place, and what is above it.
@@ -57,16 +54,14 @@ impl<'t> Here<'t> {
             None => Self {
                 node: placed.node(),
                 above: None,
-                port: placed.is_port(),
-                below_port: false,
-                below_spi: false,
+                own: placed.traits(),
+                outer: Traits::none(),
             },
             Some(above) => Self {
                 node: placed.node(),
                 above: Some(above.node()),
-                port: placed.is_port(),
-                below_port: above.is_port(),
-                below_spi: above.is_spi(),
+                own: placed.traits(),
+                outer: above.traits(),
             },
         }
     }
@@ -89,36 +84,125 @@ impl<'t> Here<'t> {
     pub fn is_port(&self) -> bool
         ensures { result ≡ is_port self.now.node }
     {
-        self.port
+        self.own.port
     }
 
     /// Whether the node above it is one.
     pub fn is_below_port(&self) -> bool
         ensures { result ≡ option_map_or is_port self.now.above false }
     {
-        self.below_port
+        self.outer.port
     }
 
     /// Whether the node above it is an SPI bus.
     pub fn is_below_spi(&self) -> bool
         ensures { result ≡ option_map_or is_spi self.now.above false }
     {
-        self.below_spi
+        self.outer.spi
+    }
+
+    /// Whether the node is a bridge to PCI.
+    pub fn is_pci(&self) -> bool
+        ensures { result ≡ is_pci self.now.node }
+    {
+        self.own.pci
+    }
+
+    /// Whether it is a bus whose devices are found without it.
+    pub fn is_simple(&self) -> bool
+        ensures { result ≡ is_simple self.now.node }
+    {
+        self.own.simple
+    }
+
+    /// Whether it is an I2C bus.
+    pub fn is_i2c(&self) -> bool
+        ensures { result ≡ is_i2c self.now.node }
+    {
+        self.own.i2c
+    }
+
+    /// Whether it is an SPI bus.
+    pub fn is_spi(&self) -> bool
+        ensures { result ≡ is_spi self.now.node }
+    {
+        self.own.spi
+    }
+
+    /// Whether it is one without the name of one.
+    pub fn is_spi_like(&self) -> bool
+        ensures { result ≡ is_spi_like self.now.node }
+    {
+        self.own.spi_like
+    }
+
+    /// Whether it is the parent of interrupts.
+    pub fn is_provider(&self) -> bool
+        ensures { result ≡ is_provider self.now.node }
+    {
+        self.own.provider
+    }
+
+    /// Whether the node above it is a bridge to PCI.
+    pub fn is_below_pci(&self) -> bool
+        ensures { result ≡ option_map_or is_pci self.now.above false }
+    {
+        self.outer.pci
+    }
+
+    /// Whether that is a bus whose devices are found without it.
+    pub fn is_below_simple(&self) -> bool
+        ensures { result ≡ option_map_or is_simple self.now.above false }
+    {
+        self.outer.simple
+    }
+
+    /// Whether that is an I2C bus.
+    pub fn is_below_i2c(&self) -> bool
+        ensures { result ≡ option_map_or is_i2c self.now.above false }
+    {
+        self.outer.i2c
+    }
+
+    /// How many cells an address has by the node above it: without one, 2.
+    pub fn outer_address_cells(&self) -> u32
+        ensures { result ≡ option_map_or (λ a. address_cells a.properties) self.now.above 2 }
+    {
+        self.outer.address_cells
+    }
+
+    /// How many cells a size has: without one, 1.
+    pub fn outer_size_cells(&self) -> u32
+        ensures { result ≡ option_map_or (λ a. size_cells a.properties) self.now.above 1 }
+    {
+        self.outer.size_cells
     }
 
     /// The value of the node's property of this name.
     pub fn value(&self, name: &[u8]) -> Option<&'t Bytes>
         ensures { option_copied result ≡ value_of self.now.node.properties name.now }
     {
-        self.node.value(name)
+        value_of(self.node, name)
     }
+}
+
+/// The value of a node's property of this name.
+pub(crate) fn value_of<'t>(node: &'t Node, name: &[u8]) -> Option<&'t Bytes>
+    ensures { option_copied result ≡ value_of node.now.properties name.now }
+{
+    for property in node.properties() {
+        if is_same(property.name.as_bytes(), name) {
+            return Some(&property.value);
+        }
+    }
+    None
 }
 
 /// Whether a node has a property of this name.
 pub fn has(node: &Node, name: &[u8]) -> bool
     ensures { result ≡ has node.now.properties name.now }
 {
-    node.value(name).is_some()
+    value_of(node, name).is_some()
 }
 
 /// The nodes below a node.
@@ -132,7 +216,7 @@ pub fn children(node: &Node) -> &[Node]
 pub fn number_of(node: &Node, name: &[u8], otherwise: u32) -> u32
     ensures { result ≡ number_of node.now.properties name.now otherwise }
 {
-    match node.value(name) {
+    match value_of(node, name) {
         None => otherwise,
         Some(value) => match cell_in(value.as_slice()) {
             None => otherwise,

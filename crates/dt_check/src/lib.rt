@@ -1,7 +1,7 @@
-//! Mistakes in devicetrees: the checks by which dtc warns, as a table, over a tree alone.
+//! Mistakes in devicetrees: what the checks find by which dtc warns, over a tree alone.
 //!
-//! What each check finds follows the Devicetree Specification v0.4 and the bindings of Linux; names, order and severities are those
-//! of dtc 1.6.1.
+//! What each check finds follows the Devicetree Specification v0.4 and the bindings of Linux; names, order and severities are those of
+//! dtc 1.6.1. Room: `links`, the mistakes that show along phandles and paths.
 #![tactic(auto)]
 
 mod addresses;
@@ -24,13 +24,14 @@ mod reg;
 mod style;
 mod survey;
 mod texts;
+mod traits;
 mod unit;
 mod unit_rules;
 mod walk;
 
 pub use addresses::{i2c_bits_fault, i2c_fault, simple_fault, spi_fault};
 pub use bridges::{bridge_address_fault, bridge_size_fault, spi_name_fault};
-pub use buses::{is_called, is_i2c, is_pci, is_provider, is_simple, is_spi};
+pub use buses::is_called;
 pub use cells::{cell_count, cell_from, next_cell};
 pub use chosen::{
     bootargs_fault, controller_fault, gpio_fault, is_gpio, is_named, is_parent_without,

@@ -3,7 +3,7 @@ ghost use Rattle.std.specs.Prelude.{◌≡◌, ◌<◌, length, position, IfSome
 ghost use Rattle.std.specs.Option.{option_copied};
 ghost use Rattle.dt_check.specs.Pci.{is_comma, pci_name_fault, no_ranges_fault, bus_range, two_cells_fault, order_fault, end_fault, pci_address, first_cell, later_cells_fault, space_fault, register_fault, is_pci_unit, pci_unit_fault, last_bus, first_bus, pci_bus_fault, bus_fault_in};
 
-use crate::buses::{is_called, is_pci, is_simple};
+use crate::buses::is_called;
 use crate::cells::cell_from;
 use crate::fault::Fault;
 use crate::here::{Here, has};
@@ -16,7 +16,7 @@ pub fn pci_name_fault(here: &Here<'_>) -> Option<Fault<'static>>
     ensures { result ≡ pci_name_fault here.now }
 {
     let node = here.node();
-    if !is_pci(node) || is_called(node, b"pci") || is_called(node, b"pcie") {
+    if !here.is_pci() || is_called(node, b"pci") || is_called(node, b"pcie") {
         return None;
     }
     Some(Fault::of_node(Message::BridgeName(Bus::Pci)))
@@ -27,7 +27,7 @@ pub fn no_ranges_fault(here: &Here<'_>) -> Option<Fault<'static>>
     ensures { result ≡ no_ranges_fault here.now }
 {
     let node = here.node();
-    if !is_pci(node) || has(node, b"ranges") {
+    if !here.is_pci() || has(node, b"ranges") {
         return None;
     }
     Some(Fault::of_node(Message::NoBridgeRanges))
@@ -36,7 +36,7 @@ pub fn no_ranges_fault(here: &Here<'_>) -> Option<Fault<'static>>
 fn bus_range<'t>(here: &Here<'t>) -> Option<&'t Bytes>
     ensures { option_copied result ≡ bus_range here.now }
 {
-    if !is_pci(here.node()) {
+    if !here.is_pci() {
         return None;
     }
     here.value(b"bus-range")
@@ -97,10 +97,7 @@ pub fn end_fault(here: &Here<'_>) -> Option<Fault<'static>>
 fn pci_address<'t>(here: &Here<'t>) -> Option<&'t Bytes>
     ensures { option_copied result ≡ pci_address here.now }
 {
-    let Some(above) = here.above() else {
-        return None;
-    };
-    if !is_pci(above) || is_simple(above) {
+    if !here.is_below_pci() || here.is_below_simple() {
         return None;
     }
     let Some(value) = here.value(b"reg") else {

@@ -1,8 +1,7 @@
 //! A node of a tree in preorder.
-use crate::buses::is_spi;
 use crate::marks::Marks;
-use crate::ports::is_port;
-use dt_tree::Node;
+use crate::traits::Traits;
+use dt_tree::{Bytes, Node};
 use std::marker::Model;
 
 /// A node, and the place of the node above it among the nodes of the tree: none for the root.
@@ -10,20 +9,16 @@ use std::marker::Model;
 pub struct Placed<'t> {
     node: &'t Node,
     above: Option<usize>,
-    // whether the node is a port: found once, since it takes a look at all children
-    port: bool,
-    // whether it is an SPI bus: the same
-    spi: bool,
+    // found once, since some take a look at all children
+    traits: Traits,
     // the names that its properties may have
     marks: Marks,
 }
 
 impl<'t> Model for Placed<'t> {
-    ghost use Rattle.std.specs.Prelude.{◌≡◌};
     ghost use Rattle.dt_check.specs.Nodes.{PlacedData, coded_placed};
-    ghost use Rattle.dt_check.specs.Buses.{is_spi};
-    ghost use Rattle.dt_check.specs.Ports.{is_port};
     ghost use Rattle.dt_check.specs.Private.Marks.{AreMarked};
+    ghost use Rattle.dt_check.specs.Private.Traits.{AreTraits};
 
     ghost Value = { PlacedData };
 
@@ -31,15 +26,17 @@ impl<'t> Model for Placed<'t> {
 
     ghost view = { λ p. record { node = p.node.now; above = p.above } };
 
-    ghost invariant = { λ p. (p.port ≡ is_port p.node.now) × (p.spi ≡ is_spi p.node.now)
-        × AreMarked p.node.now.properties p.marks.classes };
+    ghost invariant = { λ p. AreTraits p.node.now p.traits × AreMarked p.node.now.properties p.marks.classes };
 }
 
 impl<'t> Placed<'t> {
     ghost use Rattle.std.specs.Prelude.{◌≡◌};
-    ghost use Rattle.dt_check.specs.Buses.{is_spi};
+    ghost use Rattle.dt_check.specs.Buses.{is_provider};
     ghost use Rattle.dt_check.specs.Ports.{is_port};
     ghost use Rattle.std.specs.Prelude.{ℕ, List, false};
+    ghost use Rattle.std.specs.Option.{option_copied};
+    ghost use Rattle.dt_tree.specs.PathMap.{value_of};
+    ghost use Rattle.dt_check.specs.Private.Traits.{AreTraits};
     ghost use Rattle.dt_check.specs.Cells.{has};
     ghost use Rattle.dt_check.specs.Private.Marks.{class_of};
 
@@ -47,12 +44,12 @@ impl<'t> Placed<'t> {
     pub fn new(node: &'t Node, above: Option<usize>) -> Self
         ensures { result ≡ record { node = node.now; above = above } }
     {
+        let marks = Marks::of(node.properties());
         Self {
             node,
             above,
-            port: is_port(node),
-            spi: is_spi(node),
-            marks: Marks::of(node.properties()),
+            traits: Traits::of(node, marks),
+            marks,
         }
     }
 
@@ -74,14 +71,27 @@ impl<'t> Placed<'t> {
     pub fn is_port(&self) -> bool
         ensures { result ≡ is_port self.now.node }
     {
-        self.port
+        self.traits.port
     }
 
-    /// Whether the node is an SPI bus.
-    pub fn is_spi(&self) -> bool
-        ensures { result ≡ is_spi self.now.node }
+    /// Whether the node is the parent of interrupts.
+    pub fn is_provider(&self) -> bool
+        ensures { result ≡ is_provider self.now.node }
     {
-        self.spi
+        self.traits.provider
+    }
+
+    pub(crate) fn traits(&self) -> Traits
+        ensures { AreTraits self.now.node result }
+    {
+        self.traits
+    }
+
+    /// The value of the node's property of this name.
+    pub fn value(&self, name: &[u8]) -> Option<&'t Bytes>
+        ensures { option_copied result ≡ value_of self.now.node.properties name.now }
+    {
+        self.marks.value(self.node, name)
     }
 
     /// Whether the node may have a property whose name has this class: a quick look.

@@ -32,14 +32,13 @@ pub fn is_multiple(length: usize, part: usize) -> bool
     length % part == 0
 }
 
-fn reg_fault_below(above: &Node, value: &[u8]) -> Option<Fault<'static>>
-    ensures { result ≡ reg_fault_below above.now.properties value.now }
+// By how many cells the node above says that addresses and sizes have.
+fn reg_fault_below(address_cells: u32, size_cells: u32, value: &[u8]) -> Option<Fault<'static>>
+    ensures { result ≡ reg_fault_below address_cells size_cells value.now }
 {
     if value.is_empty() {
         return Some(Fault::of_property(b"reg", Message::IsEmpty));
     }
-    let address_cells = address_cells(above);
-    let size_cells = size_cells(above);
     let entry = 4 * (address_cells as usize + size_cells as usize);
     if is_multiple(value.len(), entry) {
         return None;
@@ -61,6 +60,10 @@ pub fn reg_fault(here: &Here<'_>) -> Option<Fault<'static>>
     };
     match here.above() {
         None => Some(Fault::of_node(Message::RootHasReg)),
-        Some(above) => reg_fault_below(above, value.as_slice()),
+        Some(_) => reg_fault_below(
+            here.outer_address_cells(),
+            here.outer_size_cells(),
+            value.as_slice(),
+        ),
     }
 }

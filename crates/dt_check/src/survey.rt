@@ -69,6 +69,7 @@ fn keep_places(
 }
 
 impl<'t> Survey<'t> {
+    ghost use Rattle.dt_check.specs.Links.Interrupts.{is_provider_at};
     ghost use Rattle.dt_check.specs.Nodes.{tree_nodes, place_with, here_of, node_at, value_at, above_at};
 
     /// Of the nodes of a tree.
@@ -125,9 +126,19 @@ impl<'t> Survey<'t> {
     pub fn value(&self, place: usize, name: &[u8]) -> Option<&'t Bytes>
         ensures { option_copied result ≡ value_at self.now place name.now }
     {
-        match self.node(place) {
+        match self.nodes.get(place) {
             None => None,
-            Some(node) => node.value(name),
+            Some(placed) => placed.value(name),
+        }
+    }
+
+    /// Whether the node at this place is the parent of interrupts.
+    pub fn is_provider(&self, place: usize) -> bool
+        ensures { result ≡ is_provider_at self.now place }
+    {
+        match self.nodes.get(place) {
+            None => false,
+            Some(placed) => placed.is_provider(),
         }
     }
 

@@ -35,10 +35,13 @@ pub fn is_string_list(value: &[u8]) -> bool
     }
 }
 
-/// Whether two texts have the same bytes.
+/// Whether two texts have the same bytes: of two lengths no byte is looked at.
 pub fn is_same(one: &[u8], other: &[u8]) -> bool
     ensures { result ≡ bytes_eq one.now other.now }
 {
+    if one.len() != other.len() {
+        return false;
+    }
     one == other
 }
 

@@ -3,7 +3,6 @@ ghost use Rattle.std.specs.Prelude.{◌≡◌};
 ghost use Rattle.std.specs.List.{list_any};
 ghost use Rattle.dt_check.specs.UnitRules.{is_overlay, has_overlay, has_address, unit_fault, is_own, leading_hex, without_hex, is_hex_digit, leading_zero, hex_fault, zero_fault};
 
-use crate::buses::{is_pci, is_simple};
 use crate::fault::Fault;
 use crate::here::{Here, children, has};
 use crate::message::Message;
@@ -63,10 +62,7 @@ pub fn unit_fault(here: &Here<'_>) -> Option<Fault<'static>>
 fn is_own(here: &Here<'_>) -> bool
     ensures { result ≡ is_own here.now }
 {
-    match here.above() {
-        None => false,
-        Some(above) => is_pci(above) || is_simple(above),
-    }
+    here.is_below_pci() || here.is_below_simple()
 }
 
 fn leading_hex(unit: &[u8]) -> bool

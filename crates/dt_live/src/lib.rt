@@ -1,7 +1,9 @@
-//! The live tree: rows of nodes, properties and labels in order of definition, with single edits, the preorder of its nodes, and
-//! the flattening of a tree into such rows.
+//! The live tree: rows of nodes, properties and labels in order of definition, with single edits, the preorder of its nodes, and the
+//! flattening of a tree into such rows.
 //!
-//! What an edit and the order mean is said by `dt_source::tree_meaning`: the Devicetree Specification v0.4, section 6.3.
+//! What an edit and the order mean is said by `dt_source::tree_meaning`: the Devicetree Specification v0.4, section 6.3. Rooms:
+//! `placed`, the same while a source in dtc's language edits it; `builder`, a tree out of its nodes in order; `making`, a tree out of
+//! these rows.
 #![tactic(auto)]
 
 pub mod builder;

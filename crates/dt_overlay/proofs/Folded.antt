@@ -66,7 +66,7 @@ module _ (base d : LiveTree Lent) (kept : AreKept base d) where
       (omega (arith, more, known), (kept (node_path base n)).stand n known (whole.stand n known) (below-not-itself (node_path base n)))
 
   pub mergeable : IsWhole base → (s : PatchedOverlay) (n : List ℕ) (f : Fragment) → IsFragment base s n f → IsMergeable s.live d f
-  mergeable whole s n f is = record { body = is.body_known; top = ap length is.body; target = there-target whole f.target is.target_known }
+  mergeable whole s n f is = record { node = is.node_known; body = is.body_known; top = ap length is.body; target = there-target whole f.target is.target_known }
 
   pub one-merged : (s : PatchedOverlay) (n : List ℕ) (f : Fragment) (t : Resolved) → IsFragment base s n f
       → merged_at (patched_lists s) (node_path s.live f.body) (option_map (node_path d) f.target) t ≡ merged_one base s f t
@@ -98,12 +98,12 @@ drop-end (x ∷ xs) (suc i) le = drop-end xs i (omega arith)
 pub fault-then : (e : OverlayError) (r : Result Resolved Fault) (g : Resolved → Result Resolved Fault) → IsFault e r → IsFault e (then_do r g)
 fault-then NoMemory r g is = tt
 fault-then NotOverlay r g is = ap (λ x. then_do x g) is
-fault-then NoTarget r g is = ap (λ x. then_do x g) is
-fault-then UnknownSymbol r g is = ap (λ x. then_do x g) is
-fault-then BadFixup r g is = ap (λ x. then_do x g) is
-fault-then PhandleOverflow r g is = ap (λ x. then_do x g) is
-fault-then PhandleClash r g is = ap (λ x. then_do x g) is
-fault-then TooDeep r g is = ap (λ x. then_do x g) is
+fault-then (NoTarget fragment fault) r g is = ap (λ x. then_do x g) is
+fault-then (UnknownSymbol entry site fault) r g is = ap (λ x. then_do x g) is
+fault-then (BadFixup entry fault) r g is = ap (λ x. then_do x g) is
+fault-then (PhandleOverflow place phandle shift) r g is = ap (λ x. then_do x g) is
+fault-then (PhandleClash clash) r g is = ap (λ x. then_do x g) is
+fault-then (TooDeep node target) r g is = ap (λ x. then_do x g) is
 
 -- ---- room that was written through
 gone : (xs ys : List ℕ) → length xs ≡ length ys → drop (length xs) ys ≡ []

@@ -1,11 +1,8 @@
 -- One node of a part more.
 use Rattle.std.proofs.Common.{◌≡◌, inl, inr, ℕ, suc, ◌+◌, ◌-◌, ◌≤◌, ◌<◌, Bool, true, false, ◌||◌, List, [], ◌∷◌, ◌++◌, length, get_or, slice_set, refl, sym, ap, ap₂, ◌∙◌, subst, append_assoc, append-nil, arith}
-use Rattle.std.specs.Prelude.{nat_lt}
 use Rattle.std.specs.List.{list_any}
 use Rattle.std.proofs.lemmas.Bool.{cases_eq}
-use Rattle.std.proofs.lemmas.Bool.Decides.{nat_tests}
 use Rattle.std.proofs.lemmas.List.{get_or_default, get_or-set_same, get_or-set_other}
-use Rattle.dt_tree.specs.declared.limits.TheConstants.{MAX_DEPTH}
 use Rattle.dt_source.specs.TreeMeaning.Edits as edits
 use Rattle.dt_source.specs.TreeMeaning.Paths.{Path}
 use Rattle.dt_source.specs.TreeMeaning.Resolved.{is_too_deep}
@@ -80,25 +77,9 @@ or-assoc : (a b c : Bool) → ((a || b) || c) ≡ (a || (b || c))
 or-assoc true b c = refl
 or-assoc false b c = refl
 
-or-true : (a : Bool) → true ≡ (a || true)
-or-true true = refl
-or-true false = refl
-
 pub or-false : (a : Bool) → a ≡ (a || false)
 or-false true = refl
 or-false false = refl
-
-pub deep-then : (x x' : Bool) (n : ℕ) (p : Path) → x' ≡ true → MAX_DEPTH < n → n ≡ length p → x' ≡ (x || is_too_deep p)
-deep-then x x' n p new deep same =
-    let far : MAX_DEPTH < length p = omega (arith, deep, same) in
-    let e : nat_lt MAX_DEPTH (length p) ≡ true = grind (arith, nat_tests) in
-    new ∙ or-true x ∙ ap (λ b. x || b) (sym e)
-
-pub deep-else : (x x' : Bool) (n : ℕ) (p : Path) → x' ≡ x → n ≤ MAX_DEPTH → n ≡ length p → x' ≡ (x || is_too_deep p)
-deep-else x x' n p new deep same =
-    let near' : length p ≤ MAX_DEPTH = omega (arith, deep, same) in
-    let e : nat_lt MAX_DEPTH (length p) ≡ false = grind (arith, nat_tests) in
-    new ∙ or-false x ∙ ap (λ b. x || b) (sym e)
 
 -- ---- the node of row k, with its base node
 module _ (over : LiveTree Lent) (whole : IsWhole over) (ordered : IsOrdered over) (b : ℕ) (known : b ≤ length over.nodes.items) (top : length (node_path over b) ≡ 2) (t : Path)

@@ -7,7 +7,7 @@ ghost use Rattle.dt_source.specs.OverlayMeaning.Texts.{ended_path};
 ghost use Rattle.dt_overlay.specs.Fixup.PatchedOverlay.{IsPatched};
 ghost use Rattle.dt_overlay.specs.Private.Fragments.{AreItsFragments, ArePhandles, IsBodyAt, IsTarget, NotesFirst, node_by, target_of};
 
-use crate::fixup::{PatchedOverlay, ended_path, row_phandle};
+use crate::fixup::{PatchedOverlay, TargetFault, ended_path, row_phandle};
 use dt_live::LiveTree;
 use dt_tree::cell_in;
 use std::alloc::{AllocError, Global};
@@ -124,4 +124,24 @@ fn by_path<'t>(base: &LiveTree<'t, &'t [u8]>, value: &'t [u8]) -> Option<usize>
         return None;
     };
     base.at_path(path)
+}
+
+/// Why the fragment of a node has no target, by its properties as they are after the fixups.
+pub(crate) fn target_fault(patched: &PatchedOverlay<'_>, fragment: usize) -> TargetFault
+    requires patched { IsPatched patched.now }
+    requires known { IsNode patched.now.live fragment }
+{
+    if let Some(row) = patched.live.property(fragment, b"target".as_slice()) {
+        return match cell_in(patched.value(row)) {
+            None => TargetFault::NoCell,
+            Some(phandle) => TargetFault::NoPhandle(phandle),
+        };
+    }
+    match patched.live.property(fragment, b"target-path".as_slice()) {
+        None => TargetFault::NoProperty,
+        Some(row) => match ended_path(patched.value(row)) {
+            None => TargetFault::NoPath,
+            Some(_) => TargetFault::NoNode,
+        },
+    }
 }

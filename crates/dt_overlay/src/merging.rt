@@ -8,7 +8,7 @@ ghost use Rattle.dt_overlay.specs.Private.Fragments.{AreItsFragments};
 ghost use Rattle.dt_overlay.specs.Private.Merging.{AreKept, IsMergeable, MergesAll, MergesFragment};
 
 use crate::fixup::{OverlayError, PatchedOverlay};
-use crate::fragments::Fragment;
+use crate::fragments::{Fragment, target_fault};
 use crate::part::merge_part;
 use dt_live::LiveTree;
 use std::alloc::Global;
@@ -53,7 +53,11 @@ fn merge_fragment<'s, 't>(
     ensures merged { MergesFragment patched.now fragment live.old live.new result }
 {
     match fragment.target {
-        None => Err(OverlayError::NoTarget),
+        None => {
+            let fragment = fragment.node;
+            let fault = target_fault(patched, fragment);
+            Err(OverlayError::NoTarget { fragment, fault })
+        }
         Some(target) => {
             merge_part(live, patched, target, fragment.body, base_nodes)?;
             Ok(())

@@ -1,12 +1,12 @@
 //! The nodes and the properties of one fragment, put below its target.
-ghost use Rattle.std.specs.Prelude.{◌≡◌, ◌+◌, IfOk, OnOk, length, slice_index_or, true};
+ghost use Rattle.std.specs.Prelude.{◌≡◌, ◌+◌, ◌||◌, IfOk, OnOk, is_some, length, nat_lt, slice_index_or, true};
 ghost use Rattle.dt_live.specs.ByRow.{KeepsRows};
 ghost use Rattle.dt_live.specs.Rows.{HasSameNodes, IsLiveTree, IsNode, is_standing, node_path, state_of};
 ghost use Rattle.dt_live.specs.Flattened.{IsOrdered, lists};
 ghost use Rattle.dt_overlay.specs.Fixup.PatchedOverlay.{IsPatched};
 ghost use Rattle.dt_overlay.specs.Private.Merging.{AreByNode, AreKept, ArePartNodes, DefinesPart, IsFirst, IsPart, IsPartOf, MergesPart, NotesBaseNodes, SetsPart, has_clash, is_clash, is_deep, part_at};
 
-use crate::fixup::{OverlayError, PatchedOverlay};
+use crate::fixup::{Clash, OverlayError, PatchedOverlay};
 use dt_live::{LiveTree, PropertyRow};
 use dt_tree::MAX_DEPTH;
 use std::alloc::AllocError;
@@ -15,13 +15,13 @@ use std::alloc::AllocError;
 const STAMP: usize = 1;
 
 /// Defines the nodes below the node `body` of the overlay, below the base node of `body`, and notes the base node of each. Answers the
-/// node behind them, and whether one of them lies too deep.
+/// node behind them, and the first of them that lies too deep.
 pub(crate) fn define_nodes<'s, 't>(
     live: &mut LiveTree<'s, &'s [u8]>,
     patched: &'s PatchedOverlay<'t>,
     body: usize,
     base_nodes: &mut [usize],
-) -> Result<(usize, bool), AllocError>
+) -> Result<(usize, Option<usize>), AllocError>
     requires patched { IsPatched patched.now }
     requires ordered { IsOrdered patched.now.live }
     requires body { IsNode patched.now.live body }
@@ -37,23 +37,31 @@ pub(crate) fn define_nodes<'s, 't>(
     ensures nodes { OnOk result (DefinesPart patched.now body base_nodes.old live.old live.new) }
     ensures properties { OnOk result ((lists live.new).properties ≡ (lists live.old).properties) }
     ensures part { IfOk result (λ x. IsPart patched.now.live.nodes.items body x.0) }
-    ensures deep { IfOk result (λ x. x.1 ≡ is_deep (part_at patched.now body base_nodes.old live.old)) }
+    ensures deep { IfOk result (λ x. is_some x.1 ≡ is_deep (part_at patched.now body base_nodes.old live.old)) }
     ensures base_nodes { NotesBaseNodes patched.now.live body live.old base_nodes.old live.new base_nodes.new result }
 {
     let nodes = patched.live.nodes();
-    let mut is_deep = false;
+    let mut deep = None;
     for node in body + 1..nodes.len() + 1 {
         let row = nodes[node - 1];
         if row.parent < body {
-            return Ok((node, is_deep));
+            return Ok((node, deep));
         }
         let (base_node, _) = live.define_child(base_nodes[row.parent], row.name, STAMP, row.at)?;
         base_nodes[node] = base_node;
-        if live.depth(base_node) > MAX_DEPTH {
-            is_deep = true;
-        }
+        deep = first_deep(deep, node, live.depth(base_node));
     }
-    Ok((nodes.len() + 1, is_deep))
+    Ok((nodes.len() + 1, deep))
+}
+
+// The first node that lies too deep, of one found so far and of one at a depth.
+fn first_deep(deep: Option<usize>, node: usize, depth: usize) -> Option<usize>
+    ensures { is_some result ≡ (is_some deep || nat_lt 64 depth) }
+{
+    if deep.is_some() {
+        return deep;
+    }
+    if depth > MAX_DEPTH { Some(node) } else { None }
 }
 
 /// The row of the first property of a node or of one behind it.
@@ -85,29 +93,29 @@ fn is_clash<'s>(live: &LiveTree<'s, &'s [u8]>, node: usize, name: &'s [u8]) -> b
     false
 }
 
-/// Whether a property `phandle` of the part would stand over one that is there.
-pub(crate) fn has_clash<'s, 't>(
+/// The first property `phandle` of the part that would stand over one that is there, by its row.
+pub(crate) fn find_clash<'s, 't>(
     live: &LiveTree<'s, &'s [u8]>,
     patched: &'s PatchedOverlay<'t>,
     part: Part,
     base_nodes: &[usize],
-) -> bool
+) -> Option<usize>
     requires patched { IsPatched patched.now }
     requires ordered { IsOrdered patched.now.live }
     requires part { IsPartOf patched.now.live part }
     requires room { length base_nodes.now ≡ length patched.now.live.nodes.items + 1 }
     requires sound { IsLiveTree live.now }
     requires base_nodes { ArePartNodes patched.now.live live.now part base_nodes.now }
-    ensures { result ≡ has_clash live.now (part_at patched.now part.body base_nodes.now live.now) }
+    ensures { is_some result ≡ has_clash live.now (part_at patched.now part.body base_nodes.now live.now) }
 {
     let rows = patched.live.properties();
     for at in part.first..part.last {
         let row = rows[at];
         if is_clash(live, base_nodes[row.node], row.name) {
-            return true;
+            return Some(at);
         }
     }
-    false
+    None
 }
 
 /// Sets the properties of the part at the base nodes of theirs.
@@ -160,7 +168,7 @@ pub(crate) fn merge_part<'s, 't>(
     ensures merged { MergesPart patched.now body target live.old live.new result }
 {
     base_nodes[body] = target;
-    let (end, is_deep) = define_nodes(live, patched, body, base_nodes)?;
+    let (end, deep) = define_nodes(live, patched, body, base_nodes)?;
     let rows = patched.live.properties();
     let part = Part {
         body,
@@ -168,11 +176,11 @@ pub(crate) fn merge_part<'s, 't>(
         first: first_property(rows, body),
         last: first_property(rows, end),
     };
-    if has_clash(live, patched, part, base_nodes) {
-        return Err(OverlayError::PhandleClash);
+    if let Some(property) = find_clash(live, patched, part, base_nodes) {
+        return Err(OverlayError::PhandleClash(Clash::Second { property, target }));
     }
-    if is_deep {
-        return Err(OverlayError::TooDeep);
+    if let Some(node) = deep {
+        return Err(OverlayError::TooDeep { node, target });
     }
     set_properties(live, patched, part, base_nodes)?;
     Ok(())

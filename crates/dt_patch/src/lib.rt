@@ -1,4 +1,6 @@
 //! Changes of a blob in the caller's bytes: without memory of its own and without recursion.
+//!
+//! Room: `view`, a blob read in place, as libfdt counts its nodes and properties.
 #![tactic(auto)]
 
 mod adding;

@@ -39,7 +39,7 @@ part_view (parts.File file) = Stored file.at file.offset file.length
 abbrev pub view_step : Statement-F (Entry (List Piece)) → Entry (List Piece)
 view_step (Property name value) = Defines name.now (map part_view value.parts.items)
 view_step (DeleteProperty at name) = Undefines name.now
-view_step (Node at omit_if_no_ref labels name body) = Child omit_if_no_ref (labels_view labels) name.now (body_of body.items)
+view_step (Node omit_if_no_ref at labels name body) = Child omit_if_no_ref (labels_view labels) name.now (body_of body.items)
 view_step (DeleteNode at name) = Removes name.now
 
 abbrev pub view : Statement → Entry (List Piece)

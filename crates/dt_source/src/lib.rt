@@ -1,6 +1,7 @@
-//! Devicetree sources: what a text says, or why it says nothing.
+//! Devicetree sources: what a text says, or why it says nothing; and what that means.
 //!
-//! The Devicetree Specification v0.4, chapter 6, is their grammar.
+//! The Devicetree Specification v0.4, chapter 6, is their grammar. Rooms, of definitions with their laws: `tree_meaning`, the tree
+//! that a source means; `overlay_meaning`, what an overlay makes of a tree.
 #![tactic(auto)]
 
 mod body;

@@ -84,10 +84,10 @@ pub enum Statement<'a> {
         name: &'a [u8],
     },
     Node {
-        /// where the name begins in the text, in bytes
-        at: u32,
         /// `/omit-if-no-ref/` stands before it, which only dtc's language has
         omit_if_no_ref: bool,
+        /// where the name begins in the text, in bytes
+        at: u32,
         labels: Labels<'a>,
         name: &'a [u8],
         body: Vec<Statement<'a>>,

@@ -1,8 +1,5 @@
 //! The worked rows of lexemes, expressions and sources and of trees in the making, as tables: what a row
 //! gives is what the definitions say of it, worked by hand.
-//!
-//! The tests stand here, above the crates that read sources and make trees of them, so that no crate is proved a second time for
-//! them.
 
 #[cfg(test)]
 mod dtc;

@@ -1,6 +1,4 @@
 //! The worked rows of trees and blobs, as tables: what a row gives is what the definitions say of it, worked by hand.
-//!
-//! The tests stand here, above the crates of trees, so that no crate is proved a second time for them.
 
 #[cfg(test)]
 mod blobs;

@@ -1,11 +1,13 @@
 //! Devicetrees: names, paths, nodes and trees.
 //!
-//! The names, the depth of nodes and the properties follow the Devicetree Specification v0.4, chapter 2.
+//! The names, the depth of nodes and the properties follow the Devicetree Specification v0.4, chapter 2. Rooms: `key`, names as keys
+//! of maps; `sort`, a tree in order of its names; `written_paths`, paths in the tables that traces keep.
 #![tactic(auto)]
 
 mod bytes;
 mod cells;
 mod error;
+mod few;
 mod finding;
 pub mod key;
 mod laws;

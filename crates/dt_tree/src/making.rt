@@ -9,6 +9,7 @@ ghost use Rattle.dt_tree.specs.Name.{is_name, are_names};
 ghost use Rattle.dt_tree.specs.NodeView.{name_bytes};
 
 use crate::error::TreeError;
+use crate::few::{FEW, differ_in_nodes, differ_in_properties};
 use crate::limits::MAX_DEPTH;
 use crate::name::Name;
 use crate::node::Node;
@@ -50,6 +51,9 @@ pub(crate) fn check_parts(
 fn are_distinct_properties(alloc: Global, properties: &[Property]) -> Result<bool, AllocError>
     ensures { IfOk result (λ distinct. distinct ≡ are_distinct (property_names properties.now)) }
 {
+    if properties.len() <= FEW {
+        return Ok(differ_in_properties(properties));
+    }
     let mut seen = BTreeSet::new(alloc);
     for property in properties {
         if !note_name(&mut seen, property.name.as_bytes())? {
@@ -62,6 +66,9 @@ fn are_distinct_properties(alloc: Global, properties: &[Property]) -> Result<boo
 fn are_distinct_nodes(alloc: Global, nodes: &[Node]) -> Result<bool, AllocError>
     ensures { IfOk result (λ distinct. distinct ≡ are_distinct (child_names (siblings nodes.now))) }
 {
+    if nodes.len() <= FEW {
+        return Ok(differ_in_nodes(nodes));
+    }
     let mut seen = BTreeSet::new(alloc);
     for node in nodes {
         if !note_name(&mut seen, node.name_bytes())? {

@@ -1,2 +1,3 @@
 pub mod DifferenceLemmas
 mod SameLemmas
+mod WideningLemmas

@@ -1,3 +1,4 @@
 pub mod Diff
 pub mod Difference
+pub mod Widening
 pub mod Width

@@ -6,7 +6,7 @@ use crate::showing::{ShowError, shown};
 use crate::source_lines::add_plain_property;
 use crate::value_type::{Notation, ValueType};
 use dt_blob::query::{QueryError, get, set};
-use dt_blob::{BlobError, read};
+use dt_blob::{BlobError, ReadError, read};
 use dt_tree::{Bytes, Name, Node, Path, TreeError};
 use std::alloc::{AllocError, Global};
 use std::hash::RandomState;
@@ -39,6 +39,12 @@ impl From<QueryError> for AskError<'_> {
 impl From<BlobError> for AskError<'_> {
     fn from(error: BlobError) -> Self {
         AskError::Query(QueryError::Blob(error))
+    }
+}
+
+impl From<ReadError> for AskError<'_> {
+    fn from(error: ReadError) -> Self {
+        AskError::Query(QueryError::from(error))
     }
 }
 

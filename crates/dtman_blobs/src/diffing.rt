@@ -55,11 +55,11 @@ pub fn diff_bytes(
 {
     let first = match read(alloc, first) {
         Ok(tree) => tree,
-        Err(error) => return Err(DiffError::First(error)),
+        Err(error) => return Err(DiffError::First(error.kind)),
     };
     let second = match read(alloc, second) {
         Ok(tree) => tree,
-        Err(error) => return Err(DiffError::Second(error)),
+        Err(error) => return Err(DiffError::Second(error.kind)),
     };
     trees_diff(alloc, hasher, titles, sameness, &first, &second)
 }

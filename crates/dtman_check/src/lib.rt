@@ -1,5 +1,7 @@
-//! What `check` answers, from the bytes of a blob to lines of text: each mistake with its place in the user's files, its check and what
-//! is wrong.
+//! What `check` answers, from the bytes of a blob to lines of text: each mistake with its place in the user's files, its check and
+//! what is wrong.
+//!
+//! Room: `table`, dtc's checks as one table: which are made, and what they tell.
 #![tactic(auto)]
 
 mod answer;

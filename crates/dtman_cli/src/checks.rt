@@ -1,9 +1,11 @@
 //! The mistakes in sources and blobs: `check`.
 
-use crate::compiling::{Made, Manner, dtc_made};
+use crate::compiling::{Board, Made, Manner, dtc_made};
 use crate::detail::Detail;
 use crate::diagnosing::{Given, Inputs, file_of};
+use crate::dtc::{Format, format_of};
 use crate::failure::Failure;
+use crate::files::named;
 use crate::host::Host;
 use crate::near::no_such;
 use crate::performing::Answer;
@@ -82,7 +84,7 @@ fn tell<'a, S: Surroundings, E: Eprint, T>(
         shape_of(host.detail, inspection),
         inspection.quiet as usize,
     );
-    match answer_of(host.alloc, hasher, &subject.given, selection, asked) {
+    match judged(host.alloc, hasher, &subject.given, selection, asked) {
         Ok(answer) => {
             lines.failed = lines.failed || answer.failed;
             add(&mut lines.text, answer.text.as_slice())
@@ -91,7 +93,8 @@ fn tell<'a, S: Surroundings, E: Eprint, T>(
     }
 }
 
-fn answer_of(
+/// What the checks of a board tell: of a source by its tree and its places, else of a blob.
+pub fn judged(
     alloc: Global,
     hasher: RandomState,
     given: &Board,
@@ -126,31 +129,7 @@ fn shape_of(detail: Detail, inspection: &Inspection<'_>) -> Shape {
     }
 }
 
-// How an input is called: standard input has no path.
-fn named(path: &str) -> &str {
-    match path {
-        "-" => "<stdin>",
-        path => path,
-    }
-}
-
 // ---- what is checked
-
-// A board: a blob as a file has it, or a source that was compiled.
-#[derive(Drop)]
-enum Board {
-    Blob(Vec<u8>),
-    Source(Made),
-}
-
-impl Board {
-    fn blob(&self) -> &Vec<u8> {
-        match self {
-            Board::Blob(blob) => blob,
-            Board::Source(made) => &made.compiled.blob,
-        }
-    }
-}
 
 #[derive(Drop)]
 struct Subject<'a> {
@@ -164,7 +143,7 @@ fn taken<'a, S: Surroundings, E: Eprint, T>(
     path: &'a str,
 ) -> Result<Subject<'a>, Failure<'a>> {
     let bytes = host.blob(path)?;
-    let given = if is_blob(path, bytes.as_slice()) {
+    let given = if format_of(path, bytes.as_slice()) == Format::Dtb {
         Board::Blob(bytes)
     } else {
         Board::Source(compiled(host, inspection, file_of(path, &bytes))?)
@@ -190,17 +169,6 @@ fn compiled<'a, S: Surroundings, E: Eprint, T>(
         source,
         manner,
     )
-}
-
-// Whether a file is a blob: where its bytes begin as one, or its name says so.
-fn is_blob(path: &str, bytes: &[u8]) -> bool {
-    if bytes.starts_with(b"\xd0\x0d\xfe\xed".as_slice()) {
-        return true;
-    }
-    match path.rsplit_once(".") {
-        Some((_, ending)) => ending == "dtb" || ending == "dtbo",
-        None => false,
-    }
 }
 
 fn no_blob<'a, S: Surroundings, E: Eprint, T>(

@@ -3,9 +3,9 @@
 use crate::detail::Detail;
 use crate::diagnosing::Given;
 use crate::failure::Failure;
-use crate::folders::Folders;
+use crate::folders::compile_in;
 use crate::further::{Again, source_told};
-use crate::outcome::{Outcome, compile_dtc};
+use crate::outcome::Outcome;
 use crate::shortfalls::fallen_short;
 use crate::surroundings::Surroundings;
 use crate::user_places::in_user_file;
@@ -51,6 +51,22 @@ pub struct Made {
     pub text: Vec<u8>,
 }
 
+/// A board: a blob as a file has it, or a source that was compiled.
+#[derive(Drop)]
+pub enum Board {
+    Blob(Vec<u8>),
+    Source(Made),
+}
+
+impl Board {
+    pub fn blob(&self) -> &Vec<u8> {
+        match self {
+            Board::Blob(blob) => blob,
+            Board::Source(made) => &made.compiled.blob,
+        }
+    }
+}
+
 /// The blob of a source in dtc's language, which takes in files beside it and in folders.
 pub fn dtc_made<'a, S: Surroundings>(
     alloc: Global,
@@ -60,21 +76,18 @@ pub fn dtc_made<'a, S: Surroundings>(
     source: Given<'_>,
     manner: Manner,
 ) -> Result<Made, Failure<'a>> {
-    let mut files = Folders {
-        surroundings,
-        folders,
-        is_broken: false,
-    };
+    let mut found = Vec::new(alloc);
     let options = DtcOptions {
         symbols: manner.symbols,
         boot_processor: None,
     };
-    let outcome = compile_dtc(
+    let outcome = compile_in(
         alloc,
         hasher,
-        &mut files,
-        source.name,
-        source.bytes,
+        surroundings,
+        folders,
+        &mut found,
+        source,
         options,
     );
     made_of(alloc, hasher, plain(source.name), manner, outcome)

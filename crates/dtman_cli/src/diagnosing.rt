@@ -5,7 +5,7 @@ use dtman_diagnosis::{
     diagnose_dtc, diagnose_event, diagnose_node, diagnose_overlay, diagnose_plan, diagnose_source,
     diagnose_text,
 };
-use dtman_engine::{Fault, Position, replay_bytes};
+use dtman_engine::{Culprit, Fault, Position, replay_bytes};
 use std::alloc::{AllocError, Global};
 use std::hash::RandomState;
 
@@ -78,6 +78,10 @@ pub fn diagnosed(alloc: Global, inputs: Inputs<'_>, fault: Fault) -> Result<Diag
             overlay.name,
             overlay.bytes,
             number,
+            match fault.culprit {
+                Some(Culprit::Overlay(error)) => Some(error),
+                _ => None,
+            },
         ),
         Inputs::Blob(blob) => diagnose_blob(alloc, blob.name, blob.bytes, number),
         Inputs::Node {
@@ -127,7 +131,13 @@ fn unplanned(alloc: Global, planned: Planned<'_>, fault: Fault) -> Result<Diagno
             let drivers = text_of(drivers, kind, Devices::Blob(blob.bytes));
             diagnose_text(alloc, drivers, fault.number, line)
         }
-        54..=56 => diagnose_plan(alloc, blob.name, blob.bytes, fault.number, fault.culprit),
+        54..=56 => {
+            let property = match fault.culprit {
+                Some(Culprit::Property(property)) => Some(property),
+                _ => None,
+            };
+            diagnose_plan(alloc, blob.name, blob.bytes, fault.number, property)
+        }
         _ => diagnose_blob(alloc, blob.name, blob.bytes, fault.number),
     }
 }

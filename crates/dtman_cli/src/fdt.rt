@@ -7,9 +7,9 @@ mod finding;
 mod getting;
 mod putting;
 mod reports;
-mod tokens;
+pub(crate) mod tokens;
 mod words;
 
-pub use dumping::run_fdtdump;
-pub use getting::run_fdtget;
-pub use putting::run_fdtput;
+pub(crate) use dumping::run_fdtdump;
+pub(crate) use getting::run_fdtget;
+pub(crate) use putting::run_fdtput;

@@ -83,8 +83,23 @@ fn write_beside<S: Surroundings>(
     replaced
 }
 
-// Writes a file that is made or emptied first. After a failed write it holds a beginning of the bytes, or nothing.
-fn write_in_place<S: Surroundings>(
+/// Writes a file where it is, which is made or emptied first; standard output where the path is `-`.
+pub fn put_at<S: Surroundings, O: Channel>(
+    surroundings: &mut S,
+    output: &mut O,
+    path: &str,
+    bytes: &[u8],
+) -> Result<(), Failed>
+    requires { O.has_failed output.old ≡ false }
+{
+    if path == STANDARD {
+        return write_out(output, bytes).map_err(|fault| fault.why);
+    }
+    write_in_place(surroundings, path, bytes)
+}
+
+/// Writes a file that is made or emptied first. After a failed write it holds a beginning of the bytes, or nothing.
+pub fn write_in_place<S: Surroundings>(
     surroundings: &mut S,
     path: &str,
     bytes: &[u8],
@@ -93,6 +108,14 @@ fn write_in_place<S: Surroundings>(
     write_out(&mut file, bytes).map_err(|fault| fault.why)?;
     surroundings.close(path, file);
     Ok(())
+}
+
+/// How an input is called: standard input has no path.
+pub fn named(path: &str) -> &str {
+    match path {
+        STANDARD => "<stdin>",
+        path => path,
+    }
 }
 
 /// A driver, plan or schedule file.

@@ -1,17 +1,49 @@
 //! The files that a source takes in, looked for in the folders of the command line.
 ghost use Rattle.std.specs.Prelude.{◌≡◌};
 
+use crate::diagnosing::Given;
+use crate::outcome::{Outcome, compile_dtc};
 use crate::surroundings::Surroundings;
 use dt_text::include::{Files, Found, Reads, search};
-use dtman_engine::{MAX_BLOB_LEN, read_all};
+use dtman_engine::{DtcOptions, MAX_BLOB_LEN, read_all};
 use std::alloc::{AllocError, Global};
+use std::hash::RandomState;
 
 /// The surroundings, and the folders.
-pub struct Folders<'a, S> {
-    pub surroundings: &'a mut S,
-    pub folders: &'a [&'a str],
+struct Folders<'a, S> {
+    surroundings: &'a mut S,
+    folders: &'a [&'a str],
+    /// The paths of the files that were read.
+    found: &'a mut Vec<Vec<u8>>,
     /// A file was there and couldn't be read to its end: no other is taken in its place.
-    pub is_broken: bool,
+    is_broken: bool,
+}
+
+/// Compiles a source in dtc's language with what it takes in, beside it or from folders. The paths of the files that are read are added to
+/// those that were found.
+pub fn compile_in<S: Surroundings>(
+    alloc: Global,
+    hasher: RandomState,
+    surroundings: &mut S,
+    folders: &[&str],
+    found: &mut Vec<Vec<u8>>,
+    source: Given<'_>,
+    options: DtcOptions,
+) -> Outcome {
+    let mut files = Folders {
+        surroundings,
+        folders,
+        found,
+        is_broken: false,
+    };
+    compile_dtc(
+        alloc,
+        hasher,
+        &mut files,
+        source.name,
+        source.bytes,
+        options,
+    )
 }
 
 impl<S: Surroundings> Files for Folders<'_, S> {
@@ -49,7 +81,10 @@ impl<S: Surroundings> Reads for Folders<'_, S> {
             return Ok(None);
         };
         match read_all(alloc, &mut file, MAX_BLOB_LEN) {
-            Ok(bytes) => Ok(Some(bytes)),
+            Ok(bytes) => {
+                self.found.push(Vec::from_slice(alloc, path.as_bytes())?)?;
+                Ok(Some(bytes))
+            }
             Err(fault) if fault.number == 0 => Err(AllocError),
             Err(_) => {
                 self.is_broken = true;
@@ -64,6 +99,7 @@ impl<S> Drop for Folders<'_, S> {
         let Folders {
             surroundings: _,
             folders: _,
+            found: _,
             is_broken: _,
         } = self;
     }

@@ -50,19 +50,30 @@ impl Recompiler for Again {
     }
 }
 
-/// What else is refused of a text that was refused so.
-pub fn faults_behind(
+/// All that is refused of a text of which this fault is the first, in the order of the text; nothing where the bytes of that one aren't known.
+pub fn faults_of(
     alloc: Global,
     again: Again,
     text: &[u8],
-    first: Found,
+    fault: &Fault,
 ) -> Result<Vec<Found>, AllocError> {
+    let mut faults = Vec::new(alloc);
+    let refused = refused_by(fault);
+    let Some(span) = refused_span(alloc, again.language, text, refused)? else {
+        return Ok(faults);
+    };
+    let first = Found { refused, span };
+    faults.push(first)?;
     let source = SourceText {
         language: again.language,
         text,
     };
     let mut again = again;
-    further_faults(alloc, source, first, &mut again)
+    // Where there is no memory to find the others, the first stands alone.
+    if let Ok(further) = further_faults(alloc, source, first, &mut again) {
+        faults.extend_from_slice(further.as_slice())?;
+    }
+    Ok(faults)
 }
 
 /// The name of a refusal.

@@ -57,6 +57,13 @@ impl<S: Surroundings, E: Eprint, T> Host<'_, S, E, T> {
         }
     }
 
+    /// Puts lines on standard error, where it is open; `error` where they are no text.
+    pub fn tell(&self, lines: &[u8]) {
+        let text = str::from_utf8(lines).unwrap_or("error\n");
+        // Standard error is the last place to say anything: the status stands alone where it is closed.
+        let _ = eprint!(self.errors; "{text}");
+    }
+
     /// A refusal of what was read, as it is told: by its line, or in detail.
     pub fn refusal<'a>(&self, fault: Fault, inputs: Inputs<'_>) -> Failure<'a> {
         told(self.alloc, self.detail, fault, inputs)

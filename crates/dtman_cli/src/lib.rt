@@ -1,4 +1,7 @@
 //! The program `dtman`: what the words of a command line say, and what it does over any files and any standard output.
+//!
+//! Rooms, the command lines of dtc's package: `dtc`, that of dtc and of `fdtoverlay`; `fdt`, those of `fdtget`, `fdtput` and
+//! `fdtdump`.
 #![tactic(auto)]
 
 mod arguments;
@@ -12,7 +15,7 @@ mod diagnosing;
 pub mod dtc;
 mod explaining;
 mod failure;
-pub mod fdt;
+mod fdt;
 mod files;
 mod folders;
 mod further;
@@ -31,15 +34,15 @@ mod running;
 mod shortfalls;
 mod subcommand;
 mod surroundings;
+mod tools;
 mod user_places;
 
 pub use beside::Beside;
-pub use further::{Again, faults_behind, name_of};
 pub use labelling::labelled_bytes;
 pub use outcome::{Outcome, compile_dtc};
 pub use reading::command;
 pub use running::{COMMAND_LINE, DONE, FILE, REFUSED, run, run_words};
 pub use shortfalls::shortfall_fault;
 pub use subcommand::{Board, Command, Inspection, Language, Links, Picture};
-pub use surroundings::Surroundings;
+pub use surroundings::{Entry, EntryKind, Surroundings};
 pub use user_places::in_user_file;

@@ -10,6 +10,7 @@ use crate::noted::Noted;
 use crate::performing::perform;
 use crate::reading::command;
 use crate::surroundings::{Surroundings, System};
+use crate::tools::{run_tool, tool_in};
 use clap::error::ErrorKind as Mistake;
 use dtman_engine::{Channel, Fault, MAX_TEXT_LEN, OutputChannel};
 use std::alloc::{AllocError, Global};
@@ -34,9 +35,19 @@ pub const COMMAND_LINE: u8 = 2;
 pub const FILE: u8 = 3;
 
 /// Reads the arguments, runs the command, and answers the exit status.
-pub fn run<R: Env + Files + Input + RandomSource + Print + Eprint + AllocGlobal + Threads + Sync>(
-    rt: &R,
-) -> ExitCode {
+pub fn run<
+    R: Env
+        + Files
+        + Input
+        + RandomSource
+        + Print
+        + Eprint
+        + AllocGlobal
+        + Threads
+        + Sync
+        + Clone
+        + Drop,
+>(rt: &R) -> ExitCode {
     let reason = Cell::new(None);
     let mut output = OutputChannel::new(Noted::new(io::writer(rt), &reason));
     let mut system = System {
@@ -77,15 +88,15 @@ fn wants_detail<R: Env + AllocGlobal>(rt: &R) -> bool {
     }
 }
 
-// The words, in front of them one that asks for detail where it is wanted.
+// The words, in front of them one that asks for detail where it is wanted, but for a tool, which has no such word.
 fn listed(alloc: Global, words: &[String], detail: bool) -> Result<Vec<&str>, AllocError> {
-    let mut list = Vec::with_capacity(alloc, words.len())?;
-    if detail {
-        list.push("--verbose")?;
+    let plain: Vec<&str> = words.iter().map(|word| word.as_str()).collect(alloc)?;
+    if !detail || tool_in(plain.as_slice()).is_some() {
+        return Ok(plain);
     }
-    for word in words {
-        list.push(word.as_str())?;
-    }
+    let mut list = Vec::with_capacity(alloc, plain.len().saturating_add(1))?;
+    list.push("--verbose")?;
+    list.extend_from_slice(plain.as_slice())?;
     Ok(list)
 }
 
@@ -97,8 +108,32 @@ fn arguments<R: Env + AllocGlobal>(rt: &R) -> io::Result<Vec<String>> {
 /// Runs the command that the words name, over any files and any standard output, and answers the exit status.
 ///
 /// Where that isn't 0, nothing was written to standard output, unless that is what failed, or a command has listed what should not be
-/// there. The words `-v`, `--verbose` and `--json` ask for detail, before or behind the others.
+/// there, or `fdtget` what it found first. The words `-v`, `--verbose` and `--json` ask for detail, before or behind the others. Where the
+/// program's name or its first word is one of dtc's package (`dtc`, `fdtoverlay`, `fdtget`, `fdtput`, `fdtdump`), it does what that does.
 pub fn run_words<S: Surroundings, O: Channel, E: Eprint, T: Threads + Sync>(
+    alloc: Global,
+    surroundings: &mut S,
+    threads: &T,
+    output: &mut O,
+    errors: &E,
+    words: &[&str],
+) -> u8
+    requires { O.has_failed output.old ≡ false }
+{
+    let Some((tool, words)) = tool_in(words) else {
+        return run_asked(alloc, surroundings, threads, output, errors, words);
+    };
+    let mut host = Host {
+        alloc,
+        surroundings,
+        threads,
+        errors,
+        detail: Detail::Line,
+    };
+    run_tool(&mut host, output, tool, words)
+}
+
+fn run_asked<S: Surroundings, O: Channel, E: Eprint, T: Threads + Sync>(
     alloc: Global,
     surroundings: &mut S,
     threads: &T,

@@ -5,10 +5,27 @@ use crate::beside::{Beside, create_beside};
 use crate::noted::{Noted, Reason, noting};
 use dtman_engine::{Channel, Failed, FileChannel, InputChannel};
 use std::alloc::Global;
+use std::fs::Metadata;
 use std::hash::RandomState;
 use std::random::RandomSource;
 use std::rt::Files;
 use std::{fs, io};
+
+/// What stands in a folder.
+#[derive(Clone, Copy, Debug, PartialEq, Eq)]
+pub enum EntryKind {
+    File,
+    Folder,
+    /// Neither, as a pipe, or a link that leads nowhere.
+    Other,
+}
+
+/// One of those, by its name.
+#[derive(Drop)]
+pub struct Entry {
+    pub name: String,
+    pub kind: EntryKind,
+}
 
 /// Files by their paths, standard input, and the seed that hashing of what comes from strangers begins with.
 pub trait Surroundings {
@@ -25,6 +42,9 @@ pub trait Surroundings {
     /// A new file beside a path, where one may take the place of what the path names: of a regular file, or of none.
     fn create_beside(&mut self, alloc: Global, path: &str) -> Option<Beside<Self::File>>
         ensures { IfSome result (λ beside. Self.File.has_failed beside.file ≡ false) };
+
+    /// What a folder has, in the order in which the system tells it.
+    fn entries(&mut self, alloc: Global, path: &str) -> Result<Vec<Entry>, Failed>;
 
     /// Standard input.
     fn input(&mut self) -> Self::Input
@@ -64,7 +84,17 @@ impl<R> Drop for System<'_, R> {
     }
 }
 
-impl<'a, R: Files + Input + RandomSource> Surroundings for System<'a, R> {
+// What stands where this was found.
+fn kind_of(found: io::Result<Metadata>) -> EntryKind {
+    match found {
+        Ok(found) if found.is_dir() => EntryKind::Folder,
+        Ok(found) if found.is_file() => EntryKind::File,
+        _ => EntryKind::Other,
+    }
+}
+
+impl<'a, R: Files + Input + RandomSource + AllocGlobal + Clone + Drop> Surroundings
+    for System<'a, R> {
     type File = FileChannel<Noted<'a, R::File>>;
 
     type Input = InputChannel<Noted<'a, R::Reader>>;
@@ -95,6 +125,27 @@ impl<'a, R: Files + Input + RandomSource> Surroundings for System<'a, R> {
             }),
             None => None,
         }
+    }
+
+    fn entries(&mut self, alloc: Global, path: &str) -> Result<Vec<Entry>, Failed> {
+        let Ok(folder) = fs::read_dir(self.rt, path) else {
+            return Err(Failed::Fault);
+        };
+        let mut entries = Vec::new(alloc);
+        for entry in folder {
+            let Ok(entry) = entry else {
+                return Err(Failed::Fault);
+            };
+            // what a link leads to
+            let kind = kind_of(fs::metadata(self.rt, entry.path()));
+            let Ok(name) = String::from_str(alloc, entry.file_name()) else {
+                return Err(Failed::Fault);
+            };
+            if entries.push(Entry { name, kind }).is_err() {
+                return Err(Failed::Fault);
+            }
+        }
+        Ok(entries)
     }
 
     fn input(&mut self) -> InputChannel<Noted<'a, R::Reader>> {

@@ -1,2 +1,2 @@
 pub mod Ascent
-pub mod BlobTrace
+pub mod BlobWords

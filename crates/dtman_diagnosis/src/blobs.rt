@@ -1,8 +1,11 @@
 //! Refusals of blobs.
 
-use crate::blob_trace::{Fault, trace_blob};
+use crate::blob_texts::{wanted_in_structure, wanted_text};
+use crate::blob_words::{BlobWord, word_behind};
 use crate::diagnosis::{Diagnosis, Location, Note, Subject, copied};
 use crate::natures::nature_of_no_blob;
+use crate::node_path::path_around;
+use dt_blob::{BlobError, ReadError, read};
 use std::alloc::{AllocError, Global};
 
 /// A diagnosis of a location with nothing more to say.
@@ -41,68 +44,65 @@ pub fn diagnose_blob(
     blob: &[u8],
     number: u8,
 ) -> Result<Diagnosis, AllocError> {
-    match trace_blob(alloc, blob)? {
-        // a location says nothing of what is too long
-        Some(fault) if number == 38 && fault.number == 38 => {
-            of_file_with(alloc, file, number, "the file has more")
-        }
-        None if number == 38 => of_file_with(alloc, file, number, "its text would have more"),
-        Some(fault) if fault.number == number => of_word(alloc, file, blob, &fault),
+    match read(alloc, blob) {
+        Err(refused) if refused.kind.number() == number => of_refused(alloc, file, blob, refused),
+        Ok(_) if number == 38 => of_file_with(alloc, file, number, "its text would have more"),
         _ => of_file(alloc, file, number),
     }
 }
 
-/// Whether a file is a blob.
-pub(crate) fn is_blob(alloc: Global, bytes: &[u8]) -> Result<bool, AllocError> {
-    let found = trace_blob(alloc, bytes)?;
-    Ok(found.is_none())
-}
-
-fn of_word(
+/// What is refused of the blob in the file of this name.
+pub(crate) fn of_refused(
     alloc: Global,
     file: &[u8],
     blob: &[u8],
-    fault: &Fault,
+    refused: ReadError,
 ) -> Result<Diagnosis, AllocError> {
+    let number = refused.kind.number();
+    // a location says nothing of what is too long
+    if number == 38 {
+        return of_file_with(alloc, file, number, "the file has more");
+    }
+    let word = word_behind(blob, refused.at);
     Ok(Diagnosis {
-        number: fault.number,
+        number,
         location: Location::Offset {
             file: copied(alloc, file)?,
-            offset: fault.offset,
+            offset: word.offset,
         },
         kind: Subject::Nothing,
         subject: Vec::new(alloc),
-        notes: notes_of(alloc, blob, fault)?,
+        notes: notes_of(alloc, blob, refused, word)?,
     })
 }
 
-fn notes_of(alloc: Global, blob: &[u8], fault: &Fault) -> Result<Vec<Note>, AllocError> {
+fn notes_of(
+    alloc: Global,
+    blob: &[u8],
+    refused: ReadError,
+    word: BlobWord,
+) -> Result<Vec<Note>, AllocError> {
     let mut notes = Vec::new(alloc);
-    add_notes(alloc, &mut notes, fault)?;
-    add_nature(&mut notes, blob, fault)?;
+    notes.push(Note::Wanted {
+        wanted: wanted_text(refused.wanted),
+        found: word.found,
+    })?;
+    if wanted_in_structure(refused.wanted).is_some() {
+        notes.push(Note::In {
+            path: path_around(alloc, blob, word.offset)?,
+            property: None,
+        })?;
+    }
+    add_nature(&mut notes, blob, refused.kind)?;
     Ok(notes)
 }
 
 // What a file is that doesn't begin as a blob.
-fn add_nature(notes: &mut Vec<Note>, blob: &[u8], fault: &Fault) -> Result<(), AllocError> {
-    if fault.number == 30 || fault.number == 31 {
+fn add_nature(notes: &mut Vec<Note>, blob: &[u8], kind: BlobError) -> Result<(), AllocError> {
+    if matches!(kind, BlobError::Truncated | BlobError::BadMagic) {
         if let Some(words) = nature_of_no_blob(blob) {
             notes.push(Note::Words(words))?;
         }
-    }
-    Ok(())
-}
-
-fn add_notes(alloc: Global, notes: &mut Vec<Note>, fault: &Fault) -> Result<(), AllocError> {
-    notes.push(Note::Wanted {
-        wanted: fault.wanted,
-        found: fault.found,
-    })?;
-    if let Some(path) = &fault.path {
-        notes.push(Note::In {
-            path: copied(alloc, path.as_slice())?,
-            property: None,
-        })?;
     }
     Ok(())
 }

@@ -73,22 +73,24 @@ pub(crate) fn unclosed(
     Ok(found)
 }
 
-/// A body that by its lines' indentation should end before a brace: its own brace, and that one.
+/// A body that by its lines' indentation should end before a lexeme: its brace, and that one.
 #[derive(Clone, Copy)]
 pub(crate) struct Misfit {
     pub opened: usize,
     pub before: usize,
 }
 
-/// A body's brace, and how far the line is indented that its statement begins, where it does.
+/// A body's brace, how far the line is indented that its statement begins, where it does, and the first statement in it that isn't
+/// indented more.
 #[derive(Clone, Copy)]
 struct Body {
     brace: usize,
     indent: Option<usize>,
+    stranger: Option<usize>,
 }
 
 /// The first body whose last brace is indented less than its own statement, or which is open at the lexeme of this index and not
-/// indented less than that.
+/// indented less than that. It should end before the first statement in it that isn't indented more than its own.
 pub(crate) fn misfit_in(
     alloc: Global,
     text: &[u8],
@@ -101,12 +103,17 @@ pub(crate) fn misfit_in(
     for (i, lexeme) in lexemes.iter().enumerate() {
         if begins {
             indent = indent_of(text, *lexeme);
+            note_stranger(&mut bodies, lexeme.kind, indent, i);
         }
         begins = matches!(lexeme.kind, Kind::Semicolon | Kind::Brace | Kind::EndBrace);
         let misfit = match lexeme.kind {
             _ if i == index => return Ok(open_at(bodies.last().copied(), indent, i)),
             Kind::Brace => {
-                bodies.push(Body { brace: i, indent })?;
+                bodies.push(Body {
+                    brace: i,
+                    indent,
+                    stranger: None,
+                })?;
                 None
             }
             Kind::EndBrace => ended_at(bodies.pop(), indent_of(text, *lexeme), i),
@@ -119,13 +126,27 @@ pub(crate) fn misfit_in(
     Ok(None)
 }
 
+// In the innermost body a statement that isn't indented more than the body's own.
+fn note_stranger(bodies: &mut Vec<Body>, kind: Kind, indent: Option<usize>, at: usize) {
+    let Some(body) = bodies.last_mut() else {
+        return;
+    };
+    let is_statement = !matches!(kind, Kind::EndBrace);
+    let (Some(own), Some(indent)) = (body.indent, indent) else {
+        return;
+    };
+    if is_statement && indent <= own && body.stranger.is_none() {
+        body.stranger = Some(at);
+    }
+}
+
 // A body that is indented more than the brace that ends it.
 fn ended_at(body: Option<Body>, indent: Option<usize>, before: usize) -> Option<Misfit> {
     let body = body?;
     if indent? < body.indent? {
         Some(Misfit {
             opened: body.brace,
-            before,
+            before: body.stranger.unwrap_or(before),
         })
     } else {
         None
@@ -138,7 +159,7 @@ fn open_at(body: Option<Body>, indent: Option<usize>, before: usize) -> Option<M
     if indent? <= body.indent? {
         Some(Misfit {
             opened: body.brace,
-            before,
+            before: body.stranger.unwrap_or(before),
         })
     } else {
         None

@@ -5,7 +5,8 @@
 
 mod advice;
 mod alike;
-pub mod blob_trace;
+mod blob_texts;
+mod blob_words;
 mod blobs;
 mod bodies;
 mod brackets;
@@ -18,6 +19,7 @@ mod diagnosis;
 mod escaping;
 mod events;
 mod examples;
+mod fragments;
 mod further;
 mod hints;
 mod json;
@@ -25,9 +27,10 @@ mod marks;
 mod meetings;
 mod mending;
 mod natures;
+mod node_path;
 mod nodes;
 mod origins;
-pub mod overlay_trace;
+mod overlay_notes;
 mod overlays;
 mod phandles;
 mod refused;
@@ -36,6 +39,7 @@ mod sites;
 mod sources;
 mod suppliers;
 mod text;
+mod tree_places;
 
 pub use alike::nearest;
 pub use blobs::diagnose_blob;

@@ -6,7 +6,6 @@ use Rattle.dt_tree.proofs.MapLaws.{same_tree}
 use Rattle.dt_source.specs.TreeMeaning.MapOf.{map_of}
 use Rattle.dt_source.specs.TreeMeaning.Resolved.{Resolved}
 use Rattle.dt_overlay.specs.Applied.{applied_lists}
-use Rattle.dt_overlay.specs.declared.fixup.error.OverlayError.TheVariants as overlays
 use Rattle.dt_blob.specs.Blob.{blob_of}
 use Rattle.dt_blob.specs.SourceText.{text_of}
 use Rattle.dtman_engine.specs.Dump.{CannotPrint}
@@ -28,7 +27,7 @@ module _ (base over : TreeData) where
       a.blob_is ∙ ap blob_of tree ∙ sym b.blob_is
 
   wanted : (lists : Resolved) (fault : FaultValue) → applied_lists base over ≡ Ok lists → IsUnapplied base over fault → fault ≡ no_memory
-  wanted lists fault result none = none.told ∙ ap overlay_fault (none-unapplied (applied_lists base over) lists none.error result none.refused)
+  wanted lists fault result none = none.told ∙ none-unapplied (applied_lists base over) lists none.error result none.refused
 
   not-long : (blob : List ℕ) → IsBlobOfApplied base over blob → HasLongResult base over → ⊥
   not-long blob made long =
@@ -41,7 +40,7 @@ module _ (base over : TreeData) where
   same-fault one other (inl a) b = inl a
   same-fault one other (inr a) (inl b) = inr (inl b)
   same-fault one other (inr (inl a)) (inr (inl b)) =
-      told overlay_fault a.error b.error overlays.NoMemory one other no_memory a.told b.told refl (one-unapplied (applied_lists base over) a.error b.error a.refused b.refused)
+      told (λ (f : FaultValue). f) (overlay_fault a.error) (overlay_fault b.error) no_memory one other no_memory a.told b.told refl (one-unapplied (applied_lists base over) a.error b.error a.refused b.refused)
   same-fault one other (inr (inl a)) (inr (inr b)) = inl (wanted b.1.lists one b.1.result a)
   same-fault one other (inr (inr a)) (inr (inl b)) = inr (inl (wanted a.1.lists other a.1.result b))
   same-fault one other (inr (inr a)) (inr (inr b)) = inr (inr (a.0 ∙ sym b.0))

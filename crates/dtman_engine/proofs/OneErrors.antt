@@ -8,6 +8,8 @@ use Rattle.dt_source.specs.OverlayMeaning.Fault as applied
 use Rattle.dt_overlay.specs.declared.fixup.error.OverlayError.{OverlayError}
 use Rattle.dt_overlay.specs.declared.fixup.error.OverlayError.TheVariants as overlays
 use Rattle.dt_overlay.specs.Fixup.OverlayFault as overlay
+use Rattle.dtman_engine.specs.Fault.{FaultValue, no_memory}
+use Rattle.dtman_engine.specs.OverlayFaults.{meant_fault, overlay_fault}
 
 pub same-lists : {A B : Type 0} (r : Result A B) (x y : A) → r ≡ Ok x → r ≡ Ok y → x ≡ y
 same-lists r x y one other = cc
@@ -65,34 +67,26 @@ pub none-built : {A : Type 0} (r : Result A meaning.Fault) (a : A) (e : BuildErr
 none-built r a e is why = none-of builds.NoMemory (build_error_in r) e (ap build_error_in is) (built r e why)
 
 -- ---- of an overlay
-abbrev overlay_error : applied.Fault → OverlayError
-overlay_error applied.NotOverlay = overlays.NotOverlay
-overlay_error applied.NoTarget = overlays.NoTarget
-overlay_error applied.UnknownSymbol = overlays.UnknownSymbol
-overlay_error applied.BadFixup = overlays.BadFixup
-overlay_error applied.PhandleOverflow = overlays.PhandleOverflow
-overlay_error applied.PhandleClash = overlays.PhandleClash
-overlay_error applied.TooDeep = overlays.TooDeep
+abbrev meant_fault_in : {A : Type 0} → Result A applied.Fault → Option FaultValue
+meant_fault_in (Ok a) = None
+meant_fault_in (Err fault) = Some (meant_fault fault)
 
-abbrev overlay_error_in : {A : Type 0} → Result A applied.Fault → Option OverlayError
-overlay_error_in (Ok a) = None
-overlay_error_in (Err fault) = Some (overlay_error fault)
-
-unapplied : {A : Type 0} (r : Result A applied.Fault) (e : OverlayError) → overlay.IsFault e r → (e ≡ overlays.NoMemory) ⊎ (Some e ≡ overlay_error_in r)
+unapplied : {A : Type 0} (r : Result A applied.Fault) (e : OverlayError) → overlay.IsFault e r → (overlay_fault e ≡ no_memory) ⊎ (Some (overlay_fault e) ≡ meant_fault_in r)
 unapplied r overlays.NoMemory is = inl refl
-unapplied r overlays.NotOverlay is = inr (sym (ap overlay_error_in is))
-unapplied r overlays.NoTarget is = inr (sym (ap overlay_error_in is))
-unapplied r overlays.UnknownSymbol is = inr (sym (ap overlay_error_in is))
-unapplied r overlays.BadFixup is = inr (sym (ap overlay_error_in is))
-unapplied r overlays.PhandleOverflow is = inr (sym (ap overlay_error_in is))
-unapplied r overlays.PhandleClash is = inr (sym (ap overlay_error_in is))
-unapplied r overlays.TooDeep is = inr (sym (ap overlay_error_in is))
+unapplied r overlays.NotOverlay is = inr (sym (ap meant_fault_in is))
+unapplied r (overlays.NoTarget fragment fault) is = inr (sym (ap meant_fault_in is))
+unapplied r (overlays.UnknownSymbol entry site fault) is = inr (sym (ap meant_fault_in is))
+unapplied r (overlays.BadFixup entry fault) is = inr (sym (ap meant_fault_in is))
+unapplied r (overlays.PhandleOverflow place phandle shift) is = inr (sym (ap meant_fault_in is))
+unapplied r (overlays.PhandleClash clash) is = inr (sym (ap meant_fault_in is))
+unapplied r (overlays.TooDeep node target) is = inr (sym (ap meant_fault_in is))
 
-pub one-unapplied : {A : Type 0} (r : Result A applied.Fault) (x y : OverlayError) → overlay.IsFault x r → overlay.IsFault y r → (x ≡ overlays.NoMemory) ⊎ (y ≡ overlays.NoMemory) ⊎ (x ≡ y)
-one-unapplied r x y one other = one-of overlays.NoMemory (overlay_error_in r) x y (unapplied r x one) (unapplied r y other)
+pub one-unapplied : {A : Type 0} (r : Result A applied.Fault) (x y : OverlayError) → overlay.IsFault x r → overlay.IsFault y r
+    → (overlay_fault x ≡ no_memory) ⊎ (overlay_fault y ≡ no_memory) ⊎ (overlay_fault x ≡ overlay_fault y)
+one-unapplied r x y one other = one-of no_memory (meant_fault_in r) (overlay_fault x) (overlay_fault y) (unapplied r x one) (unapplied r y other)
 
-pub none-unapplied : {A : Type 0} (r : Result A applied.Fault) (a : A) (e : OverlayError) → r ≡ Ok a → overlay.IsFault e r → e ≡ overlays.NoMemory
-none-unapplied r a e is why = none-of overlays.NoMemory (overlay_error_in r) e (ap overlay_error_in is) (unapplied r e why)
+pub none-unapplied : {A : Type 0} (r : Result A applied.Fault) (a : A) (e : OverlayError) → r ≡ Ok a → overlay.IsFault e r → overlay_fault e ≡ no_memory
+none-unapplied r a e is why = none-of no_memory (meant_fault_in r) (overlay_fault e) (ap meant_fault_in is) (unapplied r e why)
 
 -- ---- faults that tell errors
 pub told : {E F : Type 0} (fault : E → F) (x y none : E) (one other memory : F) → one ≡ fault x → other ≡ fault y → fault none ≡ memory

@@ -5,7 +5,7 @@ use Rattle.std.specs.Fmt.{decimal}
 use Rattle.dt_source.specs.declared.error.SourceErrorKind.TheVariants as source
 use Rattle.dt_build.specs.declared.resolve.error.BuildErrorKind.TheVariants as build
 use Rattle.dt_blob.specs.declared.error.BlobError.TheVariants as blob
-use Rattle.dt_overlay.specs.declared.fixup.error.OverlayError.TheVariants as overlay
+use Rattle.dt_source.specs.OverlayMeaning.Fault as overlay
 use Rattle.bus_plan.specs.declared.error.PlanError.TheVariants as text
 use Rattle.bus_core.specs.declared.refusal.Refusal.TheVariants as event
 use Rattle.bus_manager.specs.declared.run_error.RunError.TheVariants as run
@@ -14,7 +14,7 @@ use Rattle.dtman_engine.specs.declared.explaining.Explanation.{Explanation}
 use Rattle.dtman_engine.specs.Fault.{FaultValue, no_memory, cannot_read, cannot_write, file_too_long}
 use Rattle.dtman_engine.specs.BlobFaults.{blob_fault}
 use Rattle.dtman_engine.specs.EventFaults.{event_fault}
-use Rattle.dtman_engine.specs.OverlayFaults.{overlay_fault}
+use Rattle.dtman_engine.specs.OverlayFaults.{meant_fault}
 use Rattle.dtman_engine.specs.RunFaults.{run_fault}
 use Rattle.dtman_engine.specs.SourceFaults.{source_fault, build_fault}
 use Rattle.dtman_engine.specs.TextFaults.{text_fault}
@@ -42,7 +42,7 @@ blob_faults =
 
 abbrev pub overlay_faults : List FaultValue
 overlay_faults =
-    map overlay_fault (overlay.NotOverlay ∷ overlay.NoTarget ∷ overlay.UnknownSymbol ∷ overlay.BadFixup ∷ overlay.PhandleOverflow ∷ overlay.PhandleClash ∷ overlay.TooDeep ∷ [])
+    map meant_fault (overlay.NotOverlay ∷ overlay.NoTarget ∷ overlay.UnknownSymbol ∷ overlay.BadFixup ∷ overlay.PhandleOverflow ∷ overlay.PhandleClash ∷ overlay.TooDeep ∷ [])
 
 abbrev pub text_faults : List FaultValue
 text_faults =

@@ -9,10 +9,10 @@ ghost use Rattle.dtman_engine.specs.EventFaults.{event_fault};
 ghost use Rattle.dtman_engine.specs.RunFaults.{run_fault};
 
 use bus_core::Refusal;
-use bus_drivers::{Culprit, PlanFault};
+use bus_drivers::PlanFault;
 use bus_manager::RunError;
 use bus_plan::PlanError;
-use dt_blob::BlobError;
+use dt_blob::{BlobError, ReadError};
 use dt_build::BuildError;
 use dt_overlay::OverlayError;
 use dt_source::{Place, SourceError, SourceErrorKind, place_at};
@@ -33,13 +33,30 @@ pub enum Position {
     Event(usize),
 }
 
+/// What a refusal is of, where its line and its event don't say it.
+#[derive(Clone, Copy, Debug)]
+pub enum Culprit {
+    /// The property of a tree that 54 and 55 are of.
+    Property(bus_drivers::Culprit),
+    /// The place in an overlay that 40 to 46 are of.
+    Overlay(OverlayError),
+}
+
+impl Culprit {
+    fn of_property(property: Option<bus_drivers::Culprit>) -> Option<Culprit> {
+        match property {
+            Some(property) => Some(Culprit::Property(property)),
+            None => None,
+        }
+    }
+}
+
 /// The number, name and position of a refusal. Numbers and names are those of the crate that refused.
 #[derive(Clone, Copy, Debug)]
 pub struct Fault {
     pub number: u8,
     pub name: &'static str,
     pub position: Position,
-    /// The property of a tree that 54 and 55 are of.
     pub culprit: Option<Culprit>,
 }
 
@@ -161,7 +178,7 @@ impl From<PlanFault> for Fault {
 
     fn from(refused: PlanFault) -> Fault {
         Fault {
-            culprit: refused.culprit(),
+            culprit: Culprit::of_property(refused.culprit()),
             ..Fault::from(refused.error())
         }
     }
@@ -192,7 +209,7 @@ impl From<OverlayError> for Fault {
             number: error.number(),
             name: error.name(),
             position: Position::Nowhere,
-            culprit: None,
+            culprit: Some(Culprit::Overlay(error)),
         }
     }
 }
@@ -207,6 +224,15 @@ impl From<BlobError> for Fault {
             position: Position::Nowhere,
             culprit: None,
         }
+    }
+}
+
+/// What the bytes refuse of a blob.
+impl From<ReadError> for Fault {
+    ghost from_gives = { λ refused fault. fault_value fault ≡ blob_fault refused.kind };
+
+    fn from(refused: ReadError) -> Fault {
+        Fault::from(refused.kind)
     }
 }
 

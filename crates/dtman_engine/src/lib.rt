@@ -1,4 +1,6 @@
 //! The engines: each from the bytes of files to the bytes of an answer, or to the first fault.
+//!
+//! Room, of laws alone: `canonical`, the canonical source of a tree means that tree.
 #![tactic(auto)]
 
 pub mod canonical;
@@ -27,7 +29,7 @@ pub use compiling_dtc::{Compiled, DtcOptions, compile_dtc};
 pub use copying::copy_bytes;
 pub use dump::dump_bytes;
 pub use explaining::{Explanation, explain};
-pub use fault::{Fault, Position};
+pub use fault::{Culprit, Fault, Position};
 pub use laws::{blobs_come_back, limits_stand, one_answer};
 pub use limits::{MAX_BLOB_LEN, MAX_SOURCE_LEN, MAX_TEXT_LEN};
 pub use memory::Memory;

@@ -1,7 +1,5 @@
 //! The worked rows of the engines and of the program, as tables: what a row gives is what the definitions say of it, worked by
 //! hand.
-//!
-//! The tests stand here, above the crates of the engines and of the program, so that no crate is proved a second time for them.
 
 #[cfg(test)]
 mod answers;

@@ -1,4 +1,6 @@
 //! What the commands `why`, `needs`, `drivers` and `trace` answer, from the bytes of files to text.
+//!
+//! Room: `boot_log`, what a kernel's log tells of a boot, as a schedule over a plan.
 #![tactic(auto)]
 
 mod answers;

@@ -9,10 +9,10 @@ use Rattle.std_alloc.proofs.BoxSteps.Form.{Bx}
 use Rattle.std_heap.specs.contracts.Global as Heap
 use Rattle.std_heap.specs.contracts.GlobalAllocator.TheImpl.{ghosts, dict}
 use Rattle.std_heap.proofs.Global.TheLaws as heap
-use Rattle.bus_board.specs.Seats.contracts.placed_seat.Slot as slot
+use Rattle.bus_board.specs.contracts.seats.placed_seat.Slot as slot
 use Rattle.bus_board.proofs.seats.placed_seat.Slot.TheLaws as laws
-use Rattle.bus_board.specs.Seats.contracts.parts.Parts as Parts
-use Rattle.bus_board.specs.Seats.contracts.held.Held as Held
+use Rattle.bus_board.specs.contracts.seats.parts.Parts as Parts
+use Rattle.bus_board.specs.contracts.seats.held.Held as Held
 
 abbrev pub E : Bx
 E = record { row = slot.the_row; laws = laws.the_row_laws; al = record { row = Heap.the_row; laws = heap.the_row_laws; g = ghosts; d = dict; drops = impl [] tnil dnil } }

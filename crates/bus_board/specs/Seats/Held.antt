@@ -6,7 +6,7 @@ use denote.RawPtr.{Ptr}
 use Rattle.std.specs.Global.{Global}
 use Rattle.std.specs.Box.Ownership.{box_owns}
 use Rattle.std_heap.specs.contracts.GlobalAllocator.TheImpl.{ghosts}
-use Rattle.bus_board.specs.Seats.contracts.placed_seat.Slot.{the_row}
+use Rattle.bus_board.specs.contracts.seats.placed_seat.Slot.{the_row}
 use Rattle.bus_board.specs.Seats.Shown.{Placed}
 
 abbrev pub held_owns : Global → Ptr → Option the_row.Denot → Fml

@@ -6,6 +6,7 @@ use Rattle.dt_tree.specs.NodeData.{NodeData}
 use Rattle.dt_tree.specs.TreeData.{TreeData}
 use Rattle.dt_blob.specs.declared.error.BlobError.{BlobError}
 use Rattle.dt_blob.specs.declared.error.BlobError.TheVariants as errors
+use Rattle.dt_blob.specs.declared.read_error.ReadError.{ReadError}
 use Rattle.dt_blob.specs.declared.read_header.Header.{Header}
 use Rattle.dt_blob.specs.declared.read_token.BlobToken.{BlobToken}
 use Rattle.dt_blob.specs.declared.read_token.BlobToken.TheVariants as code
@@ -28,9 +29,9 @@ Refuses errors.PropertyAfterNode read = read ≡ None
 Refuses errors.BadTree read = read ≡ None
 Refuses errors.TooLarge read = ⊥
 
-abbrev pub Gives : {X Y : Type 0} → (X → Y) → Result X BlobError → Option Y → Type 0
+abbrev pub Gives : {X Y : Type 0} → (X → Y) → Result X ReadError → Option Y → Type 0
 Gives view (Ok x) read = read ≡ Some (view x)
-Gives view (Err e) read = Refuses e read
+Gives view (Err e) read = Refuses e.kind read
 
 -- the reserves have no end
 abbrev pub HasNoEnd : BlobError → Option (List (ℕ × ℕ)) → Type 0

@@ -1,5 +1,5 @@
 //! Why a blob has no answer.
-use crate::BlobError;
+use crate::{BlobError, ReadError};
 use std::alloc::AllocError;
 use thiserror::Error;
 
@@ -23,6 +23,17 @@ impl From<BlobError> for QueryError {
 
     fn from(error: BlobError) -> QueryError {
         QueryError::Blob(error)
+    }
+}
+
+impl From<ReadError> for QueryError {
+    ghost use Rattle.std.specs.Prelude.{◌≡◌};
+    ghost use Rattle.dt_blob.specs.declared.query.error.QueryError.TheVariants.{Blob};
+
+    ghost from_gives = { λ refused e. e ≡ Blob refused.kind };
+
+    fn from(refused: ReadError) -> QueryError {
+        QueryError::Blob(refused.kind)
     }
 }
 

@@ -18,5 +18,5 @@ view-removes at name = ap view (sym (rolls-DeleteNode at name)) ∙ fold-roll-St
 pub view-defines : (name : Bor (List ℕ)) (value : Value) → view (statements.Property name value) ≡ Defines name.now (map part_view value.parts.items)
 view-defines name value = ap view (sym (rolls-Property name value)) ∙ fold-roll-Statement (Entry (List Piece)) view_step _
 
-pub view-child : (at : ℕ) (omitted : Bool) (labels : Labels) (name : Bor (List ℕ)) (body : Vec Statement Global) → view (statements.Node at omitted labels name body) ≡ Child omitted (labels_view labels) name.now (views body.items)
-view-child at omitted labels name body = ap view (sym (rolls-Node at omitted labels name body)) ∙ fold-roll-Statement (Entry (List Piece)) view_step _
+pub view-child : (omitted : Bool) (at : ℕ) (labels : Labels) (name : Bor (List ℕ)) (body : Vec Statement Global) → view (statements.Node omitted at labels name body) ≡ Child omitted (labels_view labels) name.now (views body.items)
+view-child omitted at labels name body = ap view (sym (rolls-Node omitted at labels name body)) ∙ fold-roll-Statement (Entry (List Piece)) view_step _

@@ -5,8 +5,8 @@ ghost use Rattle.dt_check.specs.Ports.{is_port};
 ghost use Rattle.dt_check.specs.Links.Graph.{is_addressed_port, is_on_bus, is_ports, has_number, is_single, single_child_fault, name_of, is_of, graph_name_fault, graph_reg, graph_reg_fault, graph_unit_fault, cells_of_above, is_number, graph_address_fault, graph_size_fault, cells_fault, wrong_address, wrong_size};
 
 use crate::{
-    Fault, Graph, Here, Message, children, has, is_called, is_hex_of, is_i2c, is_named, is_pci,
-    is_port, is_simple, is_spi, unit_address,
+    Fault, Graph, Here, Message, children, has, is_called, is_hex_of, is_named, is_port,
+    unit_address,
 };
 use dt_tree::{Node, cell_in};
 
@@ -28,17 +28,18 @@ fn any_addressed_port(nodes: &[Node]) -> bool
     nodes.iter().any(|node| is_addressed_port(node))
 }
 
-fn is_on_bus(node: &Node) -> bool
-    ensures { result ≡ is_on_bus node.now }
+fn is_on_bus(here: &Here<'_>) -> bool
+    ensures { result ≡ is_on_bus here.now.node }
 {
-    is_pci(node) || is_simple(node) || is_i2c(node) || is_spi(node)
+    here.is_pci() || here.is_simple() || here.is_i2c() || here.is_spi()
 }
 
 // Whether a node has ports below it, and is no bus of another kind.
-fn is_ports(node: &Node) -> bool
-    ensures { result ≡ is_ports node.now }
+fn is_ports(here: &Here<'_>) -> bool
+    ensures { result ≡ is_ports here.now.node }
 {
-    if is_on_bus(node) {
+    let node = here.node();
+    if is_on_bus(here) {
         return false;
     }
     if is_named(node, b"ports") {
@@ -78,7 +79,7 @@ pub fn single_child_fault(here: &Here<'_>) -> Option<Fault<'static>>
     ensures { result ≡ single_child_fault here.now }
 {
     let node = here.node();
-    if !is_single(node) || !(here.is_port() || is_ports(node)) {
+    if !is_single(node) || !(here.is_port() || is_ports(here)) {
         return None;
     }
     Some(Fault::of_node(Message::SingleChild))

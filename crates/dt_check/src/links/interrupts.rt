@@ -1,10 +1,10 @@
 //! `interrupts` and what takes them (Devicetree Specification v0.4, section 2.4).
 ghost use Rattle.std.specs.Prelude.{◌≡◌};
 ghost use Rattle.std.specs.Option.{option_copied};
-ghost use Rattle.dt_check.specs.Links.Interrupts.{most_levels, named_parent, is_provider_at, step, next, search, search_from, lines, length_fault, found_fault, search_fault, missing_fault, wanted_bytes, cells_fault, cells_fault_by};
+ghost use Rattle.dt_check.specs.Links.Interrupts.{most_levels, named_parent, step, next, search, search_from, lines, length_fault, found_fault, search_fault, missing_fault, wanted_bytes, cells_fault, cells_fault_by};
 
 use crate::links::link::LinkFault;
-use crate::{Fault, Message, Survey, is_multiple, is_provider};
+use crate::{Fault, Message, Survey, is_multiple};
 use dt_tree::{Bytes, cell_in};
 
 /// What the way to the node that takes a node's interrupts comes to.
@@ -31,15 +31,6 @@ fn most_levels() -> usize
     66
 }
 
-fn is_provider_at(survey: &Survey<'_>, place: usize) -> bool
-    ensures { result ≡ is_provider_at survey.now place }
-{
-    match survey.node(place) {
-        None => false,
-        Some(node) => is_provider(node),
-    }
-}
-
 fn named_parent(survey: &Survey<'_>, at: usize, value: &[u8]) -> Way
     ensures { result ≡ named_parent survey.now at value.now }
 {
@@ -55,7 +46,7 @@ fn named_parent(survey: &Survey<'_>, at: usize, value: &[u8]) -> Way
     let Some(place) = survey.with_phandle(phandle) else {
         return Way::NoNode(at);
     };
-    if is_provider_at(survey, place) {
+    if survey.is_provider(place) {
         return Way::Found(place);
     }
     Way::NotAProvider(place)
@@ -65,7 +56,7 @@ fn named_parent(survey: &Survey<'_>, at: usize, value: &[u8]) -> Way
 fn step(survey: &Survey<'_>, own: usize, at: usize) -> Option<Way>
     ensures { result ≡ step survey.now own at }
 {
-    if at != own && is_provider_at(survey, at) {
+    if at != own && survey.is_provider(at) {
         return Some(Way::Found(at));
     }
     match survey.value(at, b"interrupt-parent") {

@@ -34,12 +34,12 @@ use Rattle.dt_overlay.proofs.FixupLemmas.OpenRows.{not-there, refused-closed}
 pub fault-then : {A B : Type 0} (e : OverlayError) (r : Result A Fault) (g : A → Result B Fault) → IsFault e r → IsFault e (then_do r g)
 fault-then NoMemory r g h = tt
 fault-then NotOverlay r g h = ap (λ z. then_do z g) h
-fault-then NoTarget r g h = ap (λ z. then_do z g) h
-fault-then UnknownSymbol r g h = ap (λ z. then_do z g) h
-fault-then Bad r g h = ap (λ z. then_do z g) h
-fault-then Overflow r g h = ap (λ z. then_do z g) h
-fault-then PhandleClash r g h = ap (λ z. then_do z g) h
-fault-then TooDeep r g h = ap (λ z. then_do z g) h
+fault-then (NoTarget fragment fault) r g h = ap (λ z. then_do z g) h
+fault-then (UnknownSymbol entry site fault) r g h = ap (λ z. then_do z g) h
+fault-then (Bad entry fault) r g h = ap (λ z. then_do z g) h
+fault-then (Overflow place phandle shift) r g h = ap (λ z. then_do z g) h
+fault-then (PhandleClash clash) r g h = ap (λ z. then_do z g) h
+fault-then (TooDeep node target) r g h = ap (λ z. then_do z g) h
 
 pub reached-start : (f : Shifting → Result Shifting Fault) (s : PatchedOverlay) → IsReached f f s s
 reached-start f s = λ x at. (x, refl, at)

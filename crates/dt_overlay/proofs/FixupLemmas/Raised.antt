@@ -25,12 +25,12 @@ use Rattle.dt_overlay.specs.Fixup.PatchedOverlay.{patched_from}
 pub fault-by : {A B : Type 0} (e : OverlayError) (r : Result A Fault) (q : Result B Fault) → ((f : Fault) → r ≡ Err f → q ≡ Err f) → IsFault e r → IsFault e q
 fault-by NoMemory r q on fault = fault
 fault-by NotOverlay r q on fault = on meaning.NotOverlay fault
-fault-by NoTarget r q on fault = on meaning.NoTarget fault
-fault-by UnknownSymbol r q on fault = on meaning.UnknownSymbol fault
-fault-by BadFixup r q on fault = on meaning.BadFixup fault
-fault-by PhandleOverflow r q on fault = on meaning.PhandleOverflow fault
-fault-by Clash r q on fault = on meaning.PhandleClash fault
-fault-by TooDeep r q on fault = on meaning.TooDeep fault
+fault-by (NoTarget fragment reason) r q on fault = on meaning.NoTarget fault
+fault-by (UnknownSymbol entry site reason) r q on fault = on meaning.UnknownSymbol fault
+fault-by (BadFixup entry reason) r q on fault = on meaning.BadFixup fault
+fault-by (PhandleOverflow place phandle shift) r q on fault = on meaning.PhandleOverflow fault
+fault-by (Clash clash) r q on fault = on meaning.PhandleClash fault
+fault-by (TooDeep node target) r q on fault = on meaning.TooDeep fault
 
 -- ---- each row in turn
 each-step : {A B : Type 0} (f : A → Result B Fault) (a : A) (as' : List A) (b : B) (bs : List B) → f a ≡ Ok b → each f as' ≡ Ok bs → each f (a ∷ as') ≡ Ok (b ∷ bs)

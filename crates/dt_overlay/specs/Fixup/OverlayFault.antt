@@ -8,12 +8,12 @@ use Rattle.dt_overlay.specs.declared.fixup.error.OverlayError.TheVariants.{NoMem
 abbrev pub IsFault : {A : Type 0} → OverlayError → Result A Fault → Type 0
 IsFault NoMemory r = Unit {0}
 IsFault NotOverlay r = r ≡ Err meaning.NotOverlay
-IsFault NoTarget r = r ≡ Err meaning.NoTarget
-IsFault UnknownSymbol r = r ≡ Err meaning.UnknownSymbol
-IsFault BadFixup r = r ≡ Err meaning.BadFixup
-IsFault PhandleOverflow r = r ≡ Err meaning.PhandleOverflow
-IsFault PhandleClash r = r ≡ Err meaning.PhandleClash
-IsFault TooDeep r = r ≡ Err meaning.TooDeep
+IsFault (NoTarget fragment fault) r = r ≡ Err meaning.NoTarget
+IsFault (UnknownSymbol entry site fault) r = r ≡ Err meaning.UnknownSymbol
+IsFault (BadFixup entry fault) r = r ≡ Err meaning.BadFixup
+IsFault (PhandleOverflow place phandle shift) r = r ≡ Err meaning.PhandleOverflow
+IsFault (PhandleClash clash) r = r ≡ Err meaning.PhandleClash
+IsFault (TooDeep node target) r = r ≡ Err meaning.TooDeep
 
 -- a call gives what the meaning gives, or has its fault
 abbrev pub Gives : {A B : Type 0} → Result A Fault → (B → A) → Result B OverlayError → Type 0

@@ -73,6 +73,7 @@ merged_at over b target t = then_do (ok_or target NoTarget) (λ p. merged (part_
 
 -- a fragment whose rows are those of an overlay and of a live tree
 pub record IsMergeable (over d : LiveTree Lent) (f : Fragment) : Type 0 where
+  pub node : IsNode over f.node
   pub body : IsNode over f.body
   pub top : length (node_path over f.body) ≡ 2
   pub target : IfSome f.target (λ n. IsNode d n × (is_standing d n ≡ true))

@@ -10,12 +10,18 @@ ghost use Rattle.dt_overlay.specs.Fixup.Private.Walk.{IsStep, local_step, proper
 use crate::fixup::error::OverlayError;
 use crate::fixup::fixed_nodes::{FixedNode, all_fixed_nodes};
 use crate::fixup::patched_overlay::{PatchedOverlay, lent};
+use crate::fixup::place::{FixupEntry, ValuePlace};
 use crate::fixup::raising::raised;
+use crate::fixup::reason::EntryFault;
 use crate::fixup::sites::take_site;
 use dt_tree::cell_at;
 use std::alloc::Global;
 
-/// Raises the phandle at a site that a local fixup names.
+fn cell_entry(property: usize, byte: usize) -> FixupEntry {
+    FixupEntry::Cell(ValuePlace { property, byte })
+}
+
+/// Raises the phandle at the site that a local fixup's entry names.
 fn raise_site<'t>(
     patched: &mut PatchedOverlay<'t>,
     local_node: usize,
@@ -23,6 +29,7 @@ fn raise_site<'t>(
     name: &'t [u8],
     offset: usize,
     shift: usize,
+    entry: FixupEntry,
 ) -> Result<(), OverlayError>
     requires sound { IsPatched patched.old }
     requires fixed_node { IsFixedNodeOf patched.old.live local_node fixed_node }
@@ -32,10 +39,15 @@ fn raise_site<'t>(
     ensures step { IsStep (site_step shift patched.old local_node name.now offset) patched.old patched.new result }
 {
     let FixedNode::Node(node) = fixed_node else {
-        return Err(OverlayError::BadFixup);
+        let fault = EntryFault::NoNode;
+        return Err(OverlayError::BadFixup { entry, fault });
     };
-    let row = take_site(patched, node, name, offset)?;
-    let number = match raised(patched.number_at(row, offset), shift) {
+    let row = take_site(patched, node, name, offset, entry)?;
+    let place = ValuePlace {
+        property: row,
+        byte: offset,
+    };
+    let number = match raised(patched.number_at(row, offset), shift, place) {
         Ok(number) => number,
         Err(error) => return Err(error),
     };
@@ -43,7 +55,7 @@ fn raise_site<'t>(
     Ok(())
 }
 
-/// Raises the phandles at the sites that one property's local fixup names.
+/// Raises the phandles at the sites that one property's local fixup names, the property of a row.
 fn raise_value<'t>(
     patched: &mut PatchedOverlay<'t>,
     local_node: usize,
@@ -51,6 +63,7 @@ fn raise_value<'t>(
     name: &'t [u8],
     value: &[u8],
     shift: usize,
+    row: usize,
 ) -> Result<(), OverlayError>
     requires sound { IsPatched patched.old }
     requires fixed_node { IsFixedNodeOf patched.old.live local_node fixed_node }
@@ -61,11 +74,17 @@ fn raise_value<'t>(
 {
     let count = value.len() / 4;
     if count * 4 != value.len() {
-        return Err(OverlayError::BadFixup);
+        return Err(OverlayError::BadFixup {
+            entry: cell_entry(row, 0),
+            fault: EntryFault::NoCells,
+        });
     }
     for k in 0..count {
         let offset = cell_at(value, k * 4) as usize;
-        if let Err(error) = raise_site(patched, local_node, fixed_node, name, offset, shift) {
+        let entry = cell_entry(row, k * 4);
+        if let Err(error) = raise_site(
+            patched, local_node, fixed_node, name, offset, shift, entry,
+        ) {
             return Err(error);
         }
     }
@@ -98,6 +117,7 @@ fn raise_local_fixup<'t>(
         property.name,
         value,
         shift,
+        row,
     )
 }
 

@@ -1,5 +1,5 @@
 //! An overlay's phandles, raised above those of its base.
-ghost use Rattle.std.specs.Prelude.{◌≡◌, ◌<◌, ◌==◌, ◌||◌, ℕ, None, false, not, length, IfOk, OnOk};
+ghost use Rattle.std.specs.Prelude.{◌≡◌, ◌<◌, ◌==◌, ◌||◌, ℕ, None, false, is_none, is_some, length, IfOk, OnOk};
 ghost use Rattle.std.specs.Int.{to_be_bytes, w32};
 ghost use Rattle.dt_live.specs.ByRow.{row_property};
 ghost use Rattle.dt_live.specs.Flattened.{IsWhole, lists};
@@ -15,16 +15,22 @@ ghost use Rattle.dt_overlay.specs.Fixup.Private.Steps.{is_marked};
 use crate::fixup::error::OverlayError;
 use crate::fixup::patched_overlay::PatchedOverlay;
 use crate::fixup::phandle::row_phandle;
+use crate::fixup::place::ValuePlace;
+use crate::fixup::reason::Clash;
 use dt_live::LiveTree;
 use std::alloc::{AllocError, Global};
-use std::collections::BTreeSet;
+use std::collections::BTreeMap;
 
-/// A number that is raised, where it still is a phandle.
-pub(crate) fn raised(number: u32, shift: usize) -> Result<u32, OverlayError>
+/// The number at a place that is raised, where it still is a phandle.
+pub(crate) fn raised(number: u32, shift: usize, place: ValuePlace) -> Result<u32, OverlayError>
     ensures { Gives (meaning.raised shift number) (to_be_bytes w32) result }
 {
     if shift >= (u32::MAX - number) as usize {
-        return Err(OverlayError::PhandleOverflow);
+        return Err(OverlayError::PhandleOverflow {
+            place,
+            phandle: number,
+            shift,
+        });
     }
     Ok(number + shift as u32)
 }
@@ -48,7 +54,8 @@ fn raise_property(
         Some(number) => number,
         None => return Ok(()),
     };
-    let number = match raised(number, shift) {
+    let place = ValuePlace { property, byte: 0 };
+    let number = match raised(number, shift, place) {
         Ok(number) => number,
         Err(error) => return Err(error),
     };
@@ -56,28 +63,32 @@ fn raise_property(
     Ok(())
 }
 
-// Adds a phandle, and answers whether it is new.
-fn meet(met: &mut BTreeSet<u32>, number: u32) -> Result<bool, AllocError>
-    ensures new { IfOk result (λ new. new ≡ not (is_met met.old number)) }
+// Adds the phandle of a property, and answers the one that has it, where one was met.
+fn meet(
+    met: &mut BTreeMap<u32, usize>,
+    number: u32,
+    property: usize,
+) -> Result<Option<usize>, AllocError>
+    ensures new { IfOk result (λ other. is_some other ≡ is_met met.old number) }
     ensures met { OnOk result ((n : ℕ) → is_met met.new n ≡ ((number == n) || is_met met.old n)) }
 {
-    Ok(met.insert(number)?)
+    Ok(met.insert(number, property)?)
 }
 
-// Whether no two properties give one phandle.
-fn are_distinct<'t>(alloc: Global, live: &LiveTree<'t, &'t [u8]>) -> Result<bool, AllocError>
+// Two properties that give one phandle, where there are some.
+fn find_same<'t>(alloc: Global, live: &LiveTree<'t, &'t [u8]>) -> Result<Option<Clash>, AllocError>
     requires { IsWhole live.now }
-    ensures { IfOk result (λ distinct. distinct ≡ differ (phandles (lists live.now).properties)) }
+    ensures { IfOk result (λ found. is_none found ≡ differ (phandles (lists live.now).properties)) }
 {
-    let mut met = BTreeSet::new(alloc);
+    let mut met = BTreeMap::new(alloc);
     for property in 0..live.properties().len() {
         if let Some(number) = row_phandle(live, property) {
-            if !meet(&mut met, number)? {
-                return Ok(false);
+            if let Some(other) = meet(&mut met, number, property)? {
+                return Ok(Some(Clash::Same { property, other }));
             }
         }
     }
-    Ok(true)
+    Ok(None)
 }
 
 // Raises all phandles, whether or not two of them are one.
@@ -111,8 +122,8 @@ pub(crate) fn raise(
     ensures phandles { DoesToAll (with_phandles shift) patched.old patched.new result }
 {
     raise_properties(patched, shift)?;
-    if !are_distinct(alloc, &patched.live)? {
-        return Err(OverlayError::PhandleClash);
+    if let Some(clash) = find_same(alloc, &patched.live)? {
+        return Err(OverlayError::PhandleClash(clash));
     }
     Ok(())
 }

@@ -6,44 +6,47 @@ ghost use Rattle.dt_overlay.specs.Fixup.Private.Walk.{IsOpenRow, IsStep, site_ta
 
 use crate::fixup::error::OverlayError;
 use crate::fixup::patched_overlay::PatchedOverlay;
+use crate::fixup::place::FixupEntry;
+use crate::fixup::reason::EntryFault;
 use dt_live::is_reserved;
 
-/// The row of the property that four bytes at an offset lie in, where they may be written.
+/// The row of the property that four bytes at an offset lie in, or why they may not be written.
 fn open_row<'t>(
     patched: &PatchedOverlay<'t>,
     node: usize,
     name: &'t [u8],
     offset: usize,
-) -> Option<usize>
+) -> Result<usize, EntryFault>
     requires sound { IsPatched patched.now }
     requires known { IsNode patched.now.live node }
     ensures { IsOpenRow patched.now node name.now offset result }
 {
     let Some(row) = patched.live.property(node, name) else {
-        return None;
+        return Err(EntryFault::NoProperty);
     };
     let length = patched.value(row).len();
     if length < 4 {
-        return None;
+        return Err(EntryFault::Outside);
     }
     if length - 4 < offset {
-        return None;
+        return Err(EntryFault::Outside);
     }
     if is_reserved(patched.live.nodes(), node) {
-        return None;
+        return Err(EntryFault::Reserved);
     }
     if name == b"phandle".as_slice() {
-        return None;
+        return Err(EntryFault::Phandle);
     }
-    Some(row)
+    Ok(row)
 }
 
-/// Takes the four bytes at an offset of a node's property for a site, and answers the property's row.
+/// Takes the four bytes at an offset of a node's property for the site that an entry names, and answers the property's row.
 pub(crate) fn take_site<'t>(
     patched: &mut PatchedOverlay<'t>,
     node: usize,
     name: &'t [u8],
     offset: usize,
+    entry: FixupEntry,
 ) -> Result<usize, OverlayError>
     requires sound { IsPatched patched.old }
     requires known { IsNode patched.old.live node }
@@ -54,11 +57,13 @@ pub(crate) fn take_site<'t>(
     ensures fits { IfOk result (λ row. offset + 4 ≤ length (value_at patched.new row)) }
     ensures step { IsStep (site_taken patched.old node name.now offset) patched.old patched.new result }
 {
-    let Some(row) = open_row(patched, node, name, offset) else {
-        return Err(OverlayError::BadFixup);
+    let row = match open_row(patched, node, name, offset) {
+        Ok(row) => row,
+        Err(fault) => return Err(OverlayError::BadFixup { entry, fault }),
     };
     if !patched.take(row, offset)? {
-        return Err(OverlayError::BadFixup);
+        let fault = EntryFault::Taken;
+        return Err(OverlayError::BadFixup { entry, fault });
     }
     Ok(row)
 }

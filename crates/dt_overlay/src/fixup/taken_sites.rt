@@ -8,15 +8,28 @@ ghost use Rattle.dt_overlay.specs.Fixup.Private.Walk.{IsStep};
 
 use crate::fixup::error::OverlayError;
 use crate::fixup::patched_overlay::PatchedOverlay;
+use crate::fixup::place::{FixupEntry, ValuePlace};
 use crate::fixup::reading::NamedSite;
+use crate::fixup::reason::EntryFault;
 use crate::fixup::sites::take_site;
 
-/// A fixup site that was taken: the row of its property, its offset, and the name of the symbol.
+/// A fixup site that was taken: the row of its property, its offset, the name of the symbol, and the text that names it.
 #[derive(Clone, Copy)]
 pub(crate) struct TakenSite<'t> {
     pub symbol: &'t [u8],
     pub row: usize,
     pub offset: usize,
+    pub entry: ValuePlace,
+}
+
+impl TakenSite<'_> {
+    /// Where its bytes begin.
+    pub fn place(&self) -> ValuePlace {
+        ValuePlace {
+            property: self.row,
+            byte: self.offset,
+        }
+    }
 }
 
 /// Takes the site of a fixup.
@@ -32,14 +45,17 @@ fn take_named_site<'t>(
     ensures taken { IfOk result (λ taken. fixup_taken patched.old.live taken ≡ fixup_named fixup.entry) }
     ensures inside { IfOk result (λ taken. IsInside patched.new taken) }
 {
+    let entry = FixupEntry::Text(fixup.entry);
     let Some(node) = patched.live.at_path(fixup.site.path) else {
-        return Err(OverlayError::BadFixup);
+        let fault = EntryFault::NoNode;
+        return Err(OverlayError::BadFixup { entry, fault });
     };
-    let row = take_site(patched, node, fixup.site.name, fixup.site.offset)?;
+    let row = take_site(patched, node, fixup.site.name, fixup.site.offset, entry)?;
     Ok(TakenSite {
         symbol: fixup.symbol,
         row,
         offset: fixup.site.offset,
+        entry: fixup.entry,
     })
 }
 

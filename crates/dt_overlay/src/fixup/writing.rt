@@ -3,10 +3,12 @@ ghost use Rattle.std.specs.Prelude.{◌≡◌, ℕ, All, Some, length, IfSome, O
 ghost use Rattle.dt_live.specs.Flattened.{IsWhole, lists};
 ghost use Rattle.dt_source.specs.OverlayMeaning.Shifted as meaning;
 ghost use Rattle.dt_overlay.specs.Fixup.PatchedOverlay.{IsPatched, value_at};
+ghost use Rattle.dt_overlay.specs.Fixup.Private.Fixing.{IsPhandleOrFault};
 ghost use Rattle.dt_overlay.specs.Fixup.Private.TakenSites.{IsInside, WritesSite, WritesSites};
 
 use crate::fixup::error::OverlayError;
 use crate::fixup::patched_overlay::PatchedOverlay;
+use crate::fixup::reason::SymbolFault;
 use crate::fixup::symbols::symbol_phandle;
 use crate::fixup::taken_sites::TakenSite;
 use dt_live::LiveTree;
@@ -17,14 +19,14 @@ fn known_phandle<'t>(
     base: &LiveTree<'t, &'t [u8]>,
     last: Option<(&'t [u8], u32)>,
     symbol: &'t [u8],
-) -> Option<u32>
+) -> Result<u32, SymbolFault>
     requires whole { IsWhole base.now }
     requires last { IfSome last (λ both. meaning.symbol_phandle (lists base.now) both.0.now ≡ Some both.1) }
-    ensures { result ≡ meaning.symbol_phandle (lists base.now) symbol.now }
+    ensures { IsPhandleOrFault (meaning.symbol_phandle (lists base.now) symbol.now) result }
 {
     if let Some((known, phandle)) = last {
         if known == symbol {
-            return Some(phandle);
+            return Ok(phandle);
         }
     }
     symbol_phandle(base, symbol)
@@ -62,8 +64,13 @@ pub(crate) fn write_sites<'t>(
 {
     let mut last = None;
     for site in sites {
-        let Some(phandle) = known_phandle(base, last, site.symbol) else {
-            return Err(OverlayError::UnknownSymbol);
+        let phandle = match known_phandle(base, last, site.symbol) {
+            Ok(phandle) => phandle,
+            Err(fault) => {
+                let entry = site.entry;
+                let site = site.place();
+                return Err(OverlayError::UnknownSymbol { entry, site, fault });
+            }
         };
         last = Some((site.symbol, phandle));
         write_site(patched, *site, phandle)?;

@@ -1,5 +1,5 @@
 //! Blobs: written, read, changed; canonical sources.
-use dt_blob::{BlobError, blob_holds, one_tree, read, source_text, write};
+use dt_blob::{ReadError, blob_holds, one_tree, read, source_text, write};
 use dt_tree::{Bytes, Name, Node, Property, Tree};
 use std::alloc::Global;
 use std::hash::RandomState;
@@ -68,10 +68,10 @@ pub(crate) fn blob(rt: &impl Abort, alloc: Global, structure: &[u32], strings: &
 }
 
 /// The number of the refusal, or none.
-pub(crate) fn refusal(outcome: Result<Tree, BlobError>) -> Option<u8> {
+pub(crate) fn refusal(outcome: Result<Tree, ReadError>) -> Option<u8> {
     match outcome {
         Ok(_) => None,
-        Err(e) => Some(e.number()),
+        Err(e) => Some(e.kind.number()),
     }
 }
 

@@ -2,7 +2,7 @@
 
 use super::blobs::ONE_CELL;
 use super::growing::{Call, grown};
-use dt_blob::{BlobError, read, source_text, write};
+use dt_blob::{BlobError, ReadError, read, source_text, write};
 use dt_tree::{Bytes, Name, Path, Tree, TreeError};
 use std::alloc::Global;
 use std::hash::RandomState;
@@ -19,7 +19,8 @@ fn set_command_line(alloc: Global, tree: &mut Tree, line: &[u8]) -> Result<(), T
 /// Why a blob got no command line.
 #[derive(Debug, Drop)]
 enum Refused {
-    Blob(BlobError),
+    Unread(ReadError),
+    Unwritten(BlobError),
     Tree(TreeError),
 }
 
@@ -30,9 +31,9 @@ fn with_command_line(
     blob: &[u8],
     line: &[u8],
 ) -> Result<Vec<u8>, Refused> {
-    let mut tree = read(alloc, blob).map_err(Refused::Blob)?;
+    let mut tree = read(alloc, blob).map_err(Refused::Unread)?;
     set_command_line(alloc, &mut tree, line).map_err(Refused::Tree)?;
-    write(alloc, hasher, &tree).map_err(Refused::Blob)
+    write(alloc, hasher, &tree).map_err(Refused::Unwritten)
 }
 
 #[test]

@@ -4,7 +4,7 @@
 use Rattle.std.specs.Prelude.{◌≡◌, ℕ, ◌+◌, Bool, false, not, ◌&&◌, ◌||◌, ◌==◌, if◌then◌else◌}
 use Rattle.std.specs.Prelude.{List, [], ◌∷◌, ◌++◌, length, Option, All, slice_get}
 use Rattle.std.specs.Bool.{MatchBool}
-use Rattle.std.specs.Option.{option_map_or}
+use Rattle.std.specs.Option.{option_copied, option_map_or}
 use Rattle.dt_check.specs.Nodes.{PlacedData}
 use Rattle.dt_live.specs.declared.making.places.Places.{Places}
 use Rattle.dtman_check.specs.declared.table.check.Check.{Check}
@@ -13,6 +13,7 @@ use Rattle.dtman_check.specs.declared.table.check.Finds.TheVariants.{Nothing, Un
 use Rattle.dtman_check.specs.declared.table.check.Finds.TheVariants.{Node, Properties, Links, Lists, Aliases}
 use Rattle.dtman_check.specs.declared.table.selection.Least.{Least}
 use Rattle.dtman_check.specs.declared.table.selection.Level.{Level}
+use Rattle.dtman_check.specs.declared.table.subject.Subject.{Subject}
 use Rattle.dtman_check.specs.Table.Finding.{FindingData, failed_prerequisite}
 use Rattle.dtman_check.specs.Table.Found.{found}
 use Rattle.dtman_check.specs.Table.Selected.{SelectionData, level_at, is_asked, is_due}
@@ -46,7 +47,13 @@ MakesBehind (f ∷ fs) nodes written check row more = more ≡ f ∷ fs
 abbrev pub Makes : List Bool → List PlacedData → Option Places → ℕ → Check → List FindingData → Type 0
 Makes told nodes written check row more = MakesBehind (missing told check row.prerequisites.now) nodes written check row more
 
--- ---- what all of them tell
+-- ---- what all of them tell, of a subject: its nodes, and where its source has them
+abbrev pub FindsOf : Subject → ℕ → Finds → List FindingData → Type 0
+FindsOf s check finds more = FindsIn s.survey.now (option_copied s.written) check finds more
+
+abbrev pub MakesOf : Subject → List Bool → ℕ → Check → List FindingData → Type 0
+MakesOf s told check row more = Makes told s.survey.now (option_copied s.written) check row more
+
 -- a run so far: of each check whether it told something, what was told, whether an error stands
 pub record RunData : Type 0 where
   pub told : List Bool
@@ -79,3 +86,15 @@ Tells nodes written selection least findings failed =
     (told : List Bool) × MakesFrom nodes written selection least 0 selection.rows
     (record { told = []; findings = []; failed = false })
     (record { told = told; findings = findings; failed = failed })
+
+-- the same three of a subject
+abbrev pub MakesNextOf : Subject → SelectionData → Least → ℕ → Check → RunData → RunData → Type 0
+MakesNextOf s selection least check row run next =
+    MakesNext s.survey.now (option_copied s.written) selection least check row run next
+
+abbrev pub MakesFromOf : Subject → SelectionData → Least → ℕ → List Check → RunData → RunData → Type 0
+MakesFromOf s selection least check rows run end =
+    MakesFrom s.survey.now (option_copied s.written) selection least check rows run end
+
+abbrev pub TellsOf : Subject → SelectionData → Least → List FindingData → Bool → Type 0
+TellsOf s selection least findings failed = Tells s.survey.now (option_copied s.written) selection least findings failed

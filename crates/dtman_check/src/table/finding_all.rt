@@ -17,7 +17,8 @@ use crate::table::rule::{LinkRule, PropertyRule, Rule};
 use crate::table::subject::Subject;
 use dt_check::links::{LinkFault, Listing, alias_fault, is_of, list_faults};
 use dt_check::{
-    Fault, Graph, Here, Placed, Survey, children, class_of, has, is_gpio, is_named, unit_address,
+    Fault, Graph, Here, Placed, Survey, children, class_of, has, is_gpio, is_named, is_same,
+    unit_address,
 };
 use dt_live::making::Places;
 use dt_tree::{Node, Property};
@@ -125,7 +126,7 @@ fn is_listed(listed: Listed, name: &[u8]) -> bool
     ensures { result ≡ is_listed listed name.now }
 {
     match listed {
-        Listed::Named(wanted) => name == wanted,
+        Listed::Named(wanted) => is_same(name, wanted),
         Listed::Lines => is_gpio(name),
     }
 }

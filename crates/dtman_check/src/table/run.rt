@@ -1,7 +1,6 @@
 //! Which checks are made, and what they tell.
 ghost use Rattle.std.specs.Prelude.{◌≡◌, ◌&&◌, IfOk, OnOk};
-ghost use Rattle.std.specs.Option.{option_copied};
-ghost use Rattle.dtman_check.specs.Table.Run.{FindsIn, Tells};
+ghost use Rattle.dtman_check.specs.Table.Run.{FindsOf, TellsOf};
 
 use crate::table::check::{Check, Finds};
 use crate::table::finding::Finding;
@@ -44,7 +43,7 @@ fn look<'t>(
     check: usize,
     finds: Finds,
 ) -> Result<Vec<Finding<'t>>, AllocError>
-    ensures { IfOk result (λ more. FindsIn subject.entry.survey.now (option_copied subject.entry.written) check finds more.items) }
+    ensures { IfOk result (λ more. FindsOf subject.entry check finds more.items) }
 {
     match finds {
         Finds::Units(counted) => find_units(subject.alloc, check, counted, subject.survey),
@@ -61,7 +60,7 @@ impl<'t> Run<'t> {
     ghost use Rattle.std.specs.Prelude.{[], false, not};
     ghost use Rattle.std.specs.Bool.{MatchBool};
     ghost use Rattle.dtman_check.specs.Table.Selected.{level_at, is_due};
-    ghost use Rattle.dtman_check.specs.Table.Run.{has_told, missing, after, Makes, MakesNext, MakesFrom};
+    ghost use Rattle.dtman_check.specs.Table.Run.{has_told, missing, after, MakesOf, MakesNextOf, MakesFromOf};
 
     fn has_told(&self, check: usize) -> bool
         ensures { result ≡ has_told self.now.told check }
@@ -97,7 +96,7 @@ impl<'t> Run<'t> {
         check: usize,
         row: &Check,
     ) -> Result<Vec<Finding<'t>>, AllocError>
-        ensures { IfOk result (λ more. Makes self.now.told subject.entry.survey.now (option_copied subject.entry.written) check row.now more.items) }
+        ensures { IfOk result (λ more. MakesOf subject.entry self.now.told check row.now more.items) }
     {
         let gone = self.missing(subject.alloc, check, row.prerequisites)?;
         if !gone.is_empty() {
@@ -115,7 +114,7 @@ impl<'t> Run<'t> {
         row: &Check,
     ) -> Result<Vec<Finding<'t>>, AllocError>
         ensures { IfOk result (λ more. MatchBool (is_due && not self.now.failed)
-            (Makes self.now.told subject.entry.survey.now (option_copied subject.entry.written) check row.now more.items) (more.items ≡ [])) }
+            (MakesOf subject.entry self.now.told check row.now more.items) (more.items ≡ [])) }
     {
         if self.failed || !is_due {
             return Ok(Vec::new(subject.alloc));
@@ -151,7 +150,7 @@ impl<'t> Run<'t> {
         row: &Check,
     ) -> Result<(), AllocError>
         ensures { OnOk result
-            (MakesNext subject.entry.survey.now (option_copied subject.entry.written) selection.now least check row.now self.old self.new) }
+            (MakesNextOf subject.entry selection.now least check row.now self.old self.new) }
     {
         let is_due = selection.is_due(least, check);
         let more = self.made_if_due(subject, is_due, check, row)?;
@@ -166,7 +165,7 @@ impl<'t> Run<'t> {
         rows: &[Check],
     ) -> Result<(), AllocError>
         ensures { OnOk result
-            (MakesFrom subject.entry.survey.now (option_copied subject.entry.written) selection.now least 0 rows.now self.old self.new) }
+            (MakesFromOf subject.entry selection.now least 0 rows.now self.old self.new) }
     {
         for (check, row) in rows.iter().enumerate() {
             self.make_next(subject, selection, least, check, row)?;
@@ -182,8 +181,7 @@ pub fn run_checks<'t>(
     selection: &Selection,
     least: Least,
 ) -> Result<Report<'t>, AllocError>
-    ensures { IfOk result (λ report. Tells subject.entry.survey.now (option_copied subject.entry.written) selection.now
-        least report.findings.items report.failed) }
+    ensures { IfOk result (λ report. TellsOf subject.entry selection.now least report.findings.items report.failed) }
 {
     let rows = selection.rows();
     let mut run = Run {

@@ -1,31 +1,30 @@
 //! The checks of a tree on the way to its blob.
 
-use crate::dtc::host::Host;
+use crate::checks::judged;
+use crate::compiling::Board;
 use crate::dtc::options::Options;
 use crate::dtc::reports::{Failure, Wrong};
-use crate::dtc::running::{Made, named};
-use crate::dtc::source_layout::Placed;
+use crate::files::named;
+use crate::host::Host;
+use crate::surroundings::Surroundings;
 use dt_blob::BlobError;
-use dtman_check::table::{Reference, Selection};
-use dtman_check::{Answer, Asked, Shape, Source, check_blob, check_tree, least_of};
-use std::alloc::Global;
-use std::hash::RandomState;
+use dtman_check::table::Reference;
+use dtman_check::{Answer, Asked, Shape, least_of};
 
-/// What the checks of what was made tell.
-pub(crate) fn checked<'a, H: Host>(
-    alloc: Global,
-    host: &mut H,
+/// What the checks of a board tell.
+pub(crate) fn checked<'a, S: Surroundings, E: Eprint, T>(
+    host: &mut Host<'_, S, E, T>,
     options: &Options<'a>,
-    made: &Made,
+    board: &Board,
 ) -> Result<(), Failure<'a>> {
     if options.selection.is_empty(least_of(options.quiet)) {
         return Ok(());
     }
-    let reference = Reference::new(alloc);
-    let Some(answer) = answer_of(alloc, host, options, made, &reference)? else {
+    let reference = Reference::new(host.alloc);
+    let Some(answer) = answer_of(host, options, board, &reference)? else {
         return Ok(());
     };
-    host.report(answer.text.as_slice());
+    host.tell(answer.text.as_slice());
     if !answer.failed {
         return Ok(());
     }
@@ -33,17 +32,16 @@ pub(crate) fn checked<'a, H: Host>(
         return Err(Failure::Said(Wrong::Tree));
     }
     if options.quiet < 3 {
-        host.report(b"Warning: Input tree has errors, output forced\n");
+        host.tell(b"Warning: Input tree has errors, output forced\n");
     }
     Ok(())
 }
 
 // What the checks tell: nothing of what is no blob, since whoever reads it says so.
-fn answer_of<'a, H: Host>(
-    alloc: Global,
-    host: &mut H,
+fn answer_of<'a, S: Surroundings, E: Eprint, T>(
+    host: &mut Host<'_, S, E, T>,
     options: &Options<'a>,
-    made: &Made,
+    board: &Board,
     reference: &Reference<'_>,
 ) -> Result<Option<Answer>, Failure<'a>> {
     let Ok(hasher) = host.seed() else {
@@ -53,23 +51,7 @@ fn answer_of<'a, H: Host>(
         Shape::Plain,
         options.quiet,
     );
-    judged(alloc, hasher, made, &options.selection, asked)
-}
-
-// Of a source by its tree and its places, else of a blob.
-fn judged<'a>(
-    alloc: Global,
-    hasher: RandomState,
-    made: &Made,
-    selection: &Selection,
-    asked: Asked<'_>,
-) -> Result<Option<Answer>, Failure<'a>> {
-    if let Some(Placed { tree, places }) = &made.placed {
-        let text = made.text.as_slice();
-        let asked = asked.in_source(Source { text, places });
-        return Ok(Some(check_tree(alloc, hasher, tree, selection, asked)?));
-    }
-    match check_blob(alloc, hasher, made.blob.as_slice(), selection, asked) {
+    match judged(host.alloc, hasher, board, &options.selection, asked) {
         Ok(answer) => Ok(Some(answer)),
         Err(BlobError::NoMemory) => Err(Failure::NoMemory),
         Err(_) => Ok(None),

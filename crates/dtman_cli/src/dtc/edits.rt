@@ -4,15 +4,13 @@
 
 use dt_text::include::Span;
 use dt_text::lexeme::{Kind, Language, Lexeme, scan_front};
+use dtman_engine::MAX_SOURCE_LEN;
 use std::alloc::{AllocError, Global};
-
-/// The most bytes that a source has.
-const MAX_TEXT: usize = 1 << 24;
 
 /// Whether these bytes of a source name the node that a body extends, or that is deleted or omitted. dtc looks for that as it reads, so
 /// what isn't there is wrong in the words of the source; what a value refers to it looks for when the tree is there.
 pub(crate) fn names_edited(alloc: Global, text: &[u8], bytes: Span) -> Result<bool, AllocError> {
-    if text.len() > MAX_TEXT {
+    if text.len() > MAX_SOURCE_LEN {
         return Ok(false);
     }
     let (lexemes, _) = scan_front(alloc, text, Language::Dtc)?;

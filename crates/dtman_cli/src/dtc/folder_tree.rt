@@ -1,7 +1,8 @@
 //! The tree that a folder holds (`-I fs`), as Linux shows its own in /proc/device-tree: a folder is a node, a file a property.
 
-use crate::dtc::host::{Entry, EntryKind, Host};
 use crate::dtc::reports::{Failure, Wrong};
+use crate::host::Host;
+use crate::surroundings::{Entry, EntryKind, Surroundings};
 use dt_blob::{BlobError, write};
 use dt_tree::{Bytes, MAX_DEPTH, Name, Node, Property, Tree, TreeError};
 use std::alloc::{AllocError, AllocFailed, Global};
@@ -46,34 +47,32 @@ fn path_in(alloc: Global, folder: &str, name: &str) -> Result<String, AllocError
 }
 
 // A file's property; none where the file can't be read, which is told.
-fn property_of<H: Host>(
-    alloc: Global,
-    host: &mut H,
+fn property_of<S: Surroundings, E: Eprint, T>(
+    host: &mut Host<'_, S, E, T>,
     folder: &str,
     name: &str,
 ) -> Result<Option<Property>, FolderError> {
-    let path = path_in(alloc, folder, name)?;
-    let Ok(value) = host.read(alloc, path.as_str()) else {
-        let warning = format!(in alloc; "WARNING: Cannot open {path}\n")?;
-        host.report(warning.as_bytes());
+    let path = path_in(host.alloc, folder, name)?;
+    let Ok(value) = host.blob(path.as_str()) else {
+        let warning = format!(in host.alloc; "WARNING: Cannot open {path}\n")?;
+        host.tell(warning.as_bytes());
         return Ok(None);
     };
     Ok(Some(Property {
-        name: Name::new(alloc, name.as_bytes())?,
+        name: Name::new(host.alloc, name.as_bytes())?,
         value: Bytes::from_vec(value),
     }))
 }
 
-fn properties_of<H: Host>(
-    alloc: Global,
-    host: &mut H,
+fn properties_of<S: Surroundings, E: Eprint, T>(
+    host: &mut Host<'_, S, E, T>,
     folder: &str,
     entries: &[Entry],
 ) -> Result<Vec<Property>, FolderError> {
-    let mut properties = Vec::new(alloc);
+    let mut properties = Vec::new(host.alloc);
     for entry in entries {
         if entry.kind == EntryKind::File {
-            if let Some(property) = property_of(alloc, host, folder, entry.name.as_str())? {
+            if let Some(property) = property_of(host, folder, entry.name.as_str())? {
                 properties.push(property)?;
             }
         }
@@ -82,29 +81,28 @@ fn properties_of<H: Host>(
 }
 
 // The node that a folder is, with so many levels at most below it.
-fn node_of<H: Host>(
-    alloc: Global,
-    host: &mut H,
+fn node_of<S: Surroundings, E: Eprint, T>(
+    host: &mut Host<'_, S, E, T>,
     folder: &str,
     name: Option<Name>,
     room: usize,
 ) -> Result<Node, FolderError> {
-    let Ok(entries) = host.entries(alloc, folder) else {
+    let Ok(entries) = host.surroundings.entries(host.alloc, folder) else {
         return Err(FolderError::Unread);
     };
-    let properties = properties_of(alloc, host, folder, entries.as_slice())?;
-    let mut children = Vec::new(alloc);
+    let properties = properties_of(host, folder, entries.as_slice())?;
+    let mut children = Vec::new(host.alloc);
     for entry in &entries {
         if entry.kind == EntryKind::Folder {
             if room == 0 {
                 return Err(FolderError::TooDeep);
             }
-            let path = path_in(alloc, folder, entry.name.as_str())?;
-            let name = Name::new(alloc, entry.name.as_bytes())?;
-            children.push(node_of(alloc, host, path.as_str(), Some(name), room - 1)?)?;
+            let path = path_in(host.alloc, folder, entry.name.as_str())?;
+            let name = Name::new(host.alloc, entry.name.as_bytes())?;
+            children.push(node_of(host, path.as_str(), Some(name), room - 1)?)?;
         }
     }
-    Ok(Node::new(alloc, name, properties, children)?)
+    Ok(Node::new(host.alloc, name, properties, children)?)
 }
 
 // The first node of this name below the root.
@@ -131,23 +129,22 @@ fn boot_processor(root: &Node) -> u32 {
 }
 
 /// The blob of the tree that a folder holds. The processor that boots is the first below /cpus.
-pub(crate) fn folder_blob<'a, H: Host>(
-    alloc: Global,
-    host: &mut H,
+pub(crate) fn folder_blob<'a, S: Surroundings, E: Eprint, T>(
+    host: &mut Host<'_, S, E, T>,
     folder: &'a str,
 ) -> Result<Vec<u8>, Failure<'a>> {
-    let root = match node_of(alloc, host, folder, None, MAX_DEPTH) {
+    let root = match node_of(host, folder, None, MAX_DEPTH) {
         Ok(root) => root,
-        Err(error) => return Err(untold(alloc, host, folder, error)),
+        Err(error) => return Err(untold(host, folder, error)),
     };
     let processor = boot_processor(&root);
-    let Ok(tree) = Tree::new(Vec::new(alloc), processor, root) else {
+    let Ok(tree) = Tree::new(Vec::new(host.alloc), processor, root) else {
         return Err(Failure::NoInput(folder));
     };
     let Ok(hasher) = host.seed() else {
         return Err(Failure::NoSeed);
     };
-    match write(alloc, hasher, &tree) {
+    match write(host.alloc, hasher, &tree) {
         Ok(blob) => Ok(blob),
         Err(BlobError::TooLarge) => Err(Failure::TooLong),
         Err(_) => Err(Failure::NoMemory),
@@ -155,9 +152,8 @@ pub(crate) fn folder_blob<'a, H: Host>(
 }
 
 // Says what of a folder is no tree.
-fn untold<'a, H: Host>(
-    alloc: Global,
-    host: &mut H,
+fn untold<'a, S: Surroundings, E: Eprint, T>(
+    host: &mut Host<'_, S, E, T>,
     folder: &'a str,
     error: FolderError,
 ) -> Failure<'a> {
@@ -167,8 +163,8 @@ fn untold<'a, H: Host>(
         FolderError::TooDeep => "folders are nested over 64 deep",
         FolderError::BadName => "a file has a name that no property or node can have",
     };
-    match format!(in alloc; "Error: {folder}: {why}\n") {
-        Ok(line) => host.report(line.as_bytes()),
+    match format!(in host.alloc; "Error: {folder}: {why}\n") {
+        Ok(line) => host.tell(line.as_bytes()),
         Err(_) => return Failure::NoMemory,
     }
     Failure::Said(Wrong::Text)

@@ -3,7 +3,8 @@
 //! The Devicetree Specification v0.4, section 6.4, says what a value is written as; which places dtc keeps was tried by hand.
 ghost use Rattle.std.specs.Prelude.{◌<◌};
 
-use dt_text::lexeme::{Kind, Lexeme};
+use dt_text::expression::escape;
+use dt_text::lexeme::{Kind, Language, Lexeme};
 use std::alloc::{AllocError, Global};
 
 /// How the bytes that follow are written.
@@ -77,24 +78,16 @@ struct Reading<'t, 'v> {
     parentheses: usize,
 }
 
-// How many bytes an escape has behind its backslash.
-fn escape_length(escaped: &[u8]) -> usize {
-    match escaped {
-        [b'x', a, b, ..] if a.is_ascii_hexdigit() && b.is_ascii_hexdigit() => 3,
-        [b'x', ..] => 2,
-        [b'0'..=b'7', b'0'..=b'7', b'0'..=b'7', ..] => 3,
-        [b'0'..=b'7', b'0'..=b'7', ..] => 2,
-        _ => 1,
-    }
-}
-
 // The bytes of a text with its zero byte, of its lexeme.
 fn text_length(lexeme: &[u8]) -> usize {
     let mut left = lexeme;
     let mut length: usize = 0;
     for _ in 0..lexeme.len() {
         let step = match left {
-            [b'\\', escaped @ ..] => escape_length(escaped).saturating_add(1),
+            [b'\\', escaped @ ..] => {
+                let (_, bytes) = escape(Language::Dtc, escaped);
+                bytes.saturating_add(1)
+            }
             [_, ..] => 1,
             [] => return length.saturating_sub(1),
         };

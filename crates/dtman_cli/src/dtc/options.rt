@@ -1,5 +1,6 @@
 //! dtc's command line: what its words say.
 
+use dtman_blobs::Room;
 use dtman_check::table::{Kind, Selection};
 use std::alloc::{AllocError, Global};
 
@@ -20,19 +21,6 @@ pub enum Output {
     Holds(Format),
     /// Nothing is written: the input is looked at alone (`-O null`).
     Nothing,
-}
-
-/// The room that a blob is given behind what it needs.
-#[derive(Clone, Copy, Debug)]
-pub struct Room {
-    /// Empty entries of the memory reservations (`-R`).
-    pub reserves: u32,
-    /// The least size (`-S`).
-    pub space: u32,
-    /// Bytes behind the blob (`-p`).
-    pub padding: u32,
-    /// What the size is a multiple of (`-a`); 0 where nothing is said.
-    pub align: u32,
 }
 
 /// In which order nodes and properties stand.
@@ -380,7 +368,7 @@ fn set<'a>(
 ) -> Result<(), BadWord<'a>> {
     let options = &mut reading.options;
     match letter {
-        Letter::From => options.from = Some(format_of(name, word)?),
+        Letter::From => options.from = Some(input_format(name, word)?),
         Letter::To => options.to = Some(output_of(name, word)?),
         Letter::Layout => is_own(name, word, "17", &["1", "2", "3", "16"])?,
         Letter::Phandles => is_own(name, word, "epapr", &["legacy", "both"])?,
@@ -406,7 +394,7 @@ fn select<'a>(options: &mut Options<'a>, kind: Kind, word: &'a str) -> Result<()
     Err(BadWord::NoCheck(word))
 }
 
-fn format_of<'a>(name: &'a str, word: &'a str) -> Result<Format, BadWord<'a>> {
+fn input_format<'a>(name: &'a str, word: &'a str) -> Result<Format, BadWord<'a>> {
     match word {
         "dts" => Ok(Format::Dts),
         "dtb" => Ok(Format::Dtb),
@@ -432,6 +420,14 @@ pub(crate) fn format_named(path: &str) -> Option<Format> {
         "dts" => Some(Format::Dts),
         "dtb" | "dtbo" => Some(Format::Dtb),
         _ => None,
+    }
+}
+
+/// What an input is: a blob where its bytes begin as one, else what its name says, else a source.
+pub fn format_of(path: &str, bytes: &[u8]) -> Format {
+    match bytes {
+        [0xd0, 0x0d, 0xfe, 0xed, ..] => Format::Dtb,
+        _ => format_named(path).unwrap_or(Format::Dts),
     }
 }
 

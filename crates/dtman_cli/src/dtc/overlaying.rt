@@ -1,11 +1,16 @@
 //! `fdtoverlay`: overlays applied to a base, one behind the other.
 //!
 //! The text that it prints by `-h` says what its options are.
+ghost use Rattle.std.specs.Prelude.{◌≡◌, false};
 
-use crate::dtc::host::{Compiler, Fault, Host};
+use crate::diagnosing::Given;
 use crate::dtc::options::BadWord;
 use crate::dtc::reports::{Failure, fail, report_fault};
-use crate::dtc::running::{DONE, FAILED, VERSION, put, read};
+use crate::dtc::running::{FAILED, VERSION, put, read};
+use crate::host::Host;
+use crate::running::DONE;
+use crate::surroundings::Surroundings;
+use dtman_engine::{Channel, Fault, copy_bytes, overlay_bytes};
 use std::alloc::Global;
 
 const HELP: &[u8] = b"Usage: apply a number of overlays to a base blob
@@ -39,52 +44,64 @@ enum Letter {
 }
 
 /// Runs fdtoverlay by the words behind its name: `-i BASE -o OUT OVERLAY..`. Answers the exit status.
-pub fn run_fdtoverlay<H: Host, C: Compiler>(
-    alloc: Global,
-    host: &mut H,
-    compiler: &mut C,
+pub(crate) fn run_fdtoverlay<S: Surroundings, O: Channel, E: Eprint, T>(
+    host: &mut Host<'_, S, E, T>,
+    output: &mut O,
     words: &[&str],
-) -> u8 {
-    match apply(alloc, host, compiler, words) {
+) -> u8
+    requires { O.has_failed output.old ≡ false }
+{
+    match apply(host, output, words) {
         Ok(()) => DONE,
         Err(failure) => {
-            fail(alloc, host, &failure);
+            fail(host, &failure);
             FAILED
         }
     }
 }
 
-fn apply<'a, H: Host, C: Compiler>(
-    alloc: Global,
-    host: &mut H,
-    compiler: &mut C,
+fn apply<'a, S: Surroundings, O: Channel, E: Eprint, T>(
+    host: &mut Host<'_, S, E, T>,
+    output: &mut O,
     words: &[&'a str],
-) -> Result<(), Failure<'a>> {
-    let wanted = read_wanted(alloc, words)?;
+) -> Result<(), Failure<'a>>
+    requires { O.has_failed output.old ≡ false }
+{
+    let wanted = read_wanted(host.alloc, words)?;
     if let Some(text) = wanted.told {
-        return put(host, "-", text);
+        return put(host, output, "-", text);
     }
     let Some(base) = wanted.base else {
         return Err(Failure::Word(BadWord::NoArgument("-i")));
     };
-    let Some(output) = wanted.output else {
+    let Some(path) = wanted.output else {
         return Err(Failure::Word(BadWord::NoArgument("-o")));
     };
     if wanted.overlays.is_empty() {
         return Err(Failure::Word(BadWord::NoOverlay));
     }
-    let mut blob = read(alloc, host, base)?;
-    for path in wanted.overlays.iter() {
-        let overlay = read(alloc, host, *path)?;
+    let blob = applied_all(host, base, wanted.overlays.as_slice())?;
+    put(host, output, path, blob.as_slice())
+}
+
+/// The blob with all overlays on it.
+fn applied_all<'a, S: Surroundings, E: Eprint, T>(
+    host: &mut Host<'_, S, E, T>,
+    base: &'a str,
+    overlays: &[&'a str],
+) -> Result<Vec<u8>, Failure<'a>> {
+    let mut blob = read(host, base)?;
+    for path in overlays {
+        let overlay = read(host, *path)?;
         let pair = Pair {
             base,
             path: *path,
             blob: blob.as_slice(),
             overlay: overlay.as_slice(),
         };
-        blob = applied(alloc, host, compiler, &pair)?;
+        blob = applied(host, &pair)?;
     }
-    put(host, output, blob.as_slice())
+    Ok(blob)
 }
 
 /// A blob and an overlay for it, with the files that they come from.
@@ -97,35 +114,35 @@ struct Pair<'a, 'b> {
 }
 
 /// The blob with the overlay on it. One without a fragment changes nothing.
-fn applied<'a, H: Host, C: Compiler>(
-    alloc: Global,
-    host: &mut H,
-    compiler: &mut C,
+fn applied<'a, S: Surroundings, E: Eprint, T>(
+    host: &mut Host<'_, S, E, T>,
     pair: &Pair<'a, '_>,
 ) -> Result<Vec<u8>, Failure<'a>> {
     let Ok(hasher) = host.seed() else {
         return Err(Failure::NoSeed);
     };
-    let fault = match compiler.overlay(alloc, hasher, pair.blob, pair.overlay) {
+    let fault = match overlay_bytes(host.alloc, hasher, pair.blob, pair.overlay) {
         Ok(blob) => return Ok(blob),
         Err(fault) => fault,
     };
-    let copy = compiler.copy(alloc, hasher, pair.blob);
-    match copy {
+    match copy_bytes(host.alloc, hasher, pair.blob) {
         Ok(copy) if fault.number == NOT_OVERLAY => Ok(copy),
-        Ok(_) => Err(not_applied(alloc, host, pair.path, &fault)),
-        Err(of_base) => Err(not_applied(alloc, host, pair.base, &of_base)),
+        Ok(_) => Err(not_applied(host, pair.path, &fault)),
+        Err(of_base) => Err(not_applied(host, pair.base, &of_base)),
     }
 }
 
 /// Tells in which file a fault is.
-fn not_applied<'a, H: Host>(
-    alloc: Global,
-    host: &mut H,
+fn not_applied<'a, S: Surroundings, E: Eprint, T>(
+    host: &mut Host<'_, S, E, T>,
     path: &'a str,
     fault: &Fault,
 ) -> Failure<'a> {
-    match report_fault(alloc, host, path.as_bytes(), b"", fault) {
+    let blob = Given {
+        name: path.as_bytes(),
+        bytes: b"",
+    };
+    match report_fault(host, blob, fault) {
         Failure::Said(_) => Failure::NotApplied(path),
         failure => failure,
     }

@@ -1,12 +1,18 @@
 //! What is said on standard error, in dtc's way.
 
+use crate::diagnosing::Given;
 use crate::dtc::edits::names_edited;
-use crate::dtc::host::{Fault, Host};
 use crate::dtc::options::BadWord;
 use crate::dtc::running::{FAILED, WRONG_TREE};
 use crate::dtc::wording::words_of_number;
+use crate::further::{Again, faults_of, name_of};
+use crate::host::Host;
+use crate::shortfalls::shortfall_fault;
+use crate::surroundings::Surroundings;
 use dt_text::include::{Incomplete, Place, Shortfall, Span, columns_of, user_place};
 use dt_text::lexeme::line_of;
+use dtman_diagnosis::Found;
+use dtman_engine::Fault;
 use std::alloc::{AllocError, AllocFailed, Global};
 
 /// Why a run ended without its output.
@@ -23,8 +29,10 @@ pub(crate) enum Failure<'a> {
     Said(Wrong),
     /// An overlay that doesn't fit; why was said already.
     NotApplied(&'a str),
-    /// A blob over 2^32 bytes.
+    /// A blob of 2^32 bytes or more.
     TooLong,
+    /// What is to be given room is no blob.
+    NoBlob,
 }
 
 /// In what something is wrong.
@@ -48,44 +56,59 @@ impl<T: Drop> From<AllocFailed<T>> for Failure<'_> {
     }
 }
 
-/// Says a refusal of the compiler in a source with all that it takes in, where it shows in the user's files.
-pub(crate) fn report_source<H: Host>(
-    alloc: Global,
-    host: &mut H,
-    file: &[u8],
-    text: &[u8],
+/// Says all that is refused of a source with all that it takes in, where it shows in the user's files, and answers with the failure that ends
+/// the run.
+pub(crate) fn report_source<S: Surroundings, E: Eprint, T>(
+    host: &mut Host<'_, S, E, T>,
+    again: Again,
+    source: Given<'_>,
     fault: &Fault,
 ) -> Failure<'static> {
-    let Some(bytes) = fault.bytes else {
-        return report_fault(alloc, host, file, text, fault);
+    // Where there is no memory to find its bytes, the line stands alone.
+    let Ok(faults) = faults_of(host.alloc, again, source.bytes, fault) else {
+        return report_fault(host, source, fault);
     };
-    let told = Told {
-        number: fault.number,
-        name: fault.name,
-        lexeme: lexeme_in(text, bytes),
-    };
-    let at = located(text, place_of(file, text, bytes));
-    let wrong = match names_edited(alloc, text, bytes) {
-        Ok(true) => Wrong::Text,
-        Ok(false) => wrong_in(fault.number),
-        Err(_) => return Failure::NoMemory,
-    };
-    said(wrong, report_at(alloc, host, Some(at), told))
+    match faults.as_slice().split_first() {
+        Some((first, further)) => {
+            let failure = report_found(host, source, *first);
+            report_further(host, source, failure, further)
+        }
+        None => report_fault(host, source, fault),
+    }
 }
 
-/// Says what else is refused of it, and answers with the failure that ends the run: one of the source's words comes before one of the
-/// tree that they make.
-pub(crate) fn report_further<H: Host>(
-    alloc: Global,
-    host: &mut H,
-    file: &[u8],
-    text: &[u8],
+/// Says a refusal by its bytes.
+fn report_found<S: Surroundings, E: Eprint, T>(
+    host: &mut Host<'_, S, E, T>,
+    source: Given<'_>,
+    found: Found,
+) -> Failure<'static> {
+    let (number, text, bytes) = (found.refused.number, source.bytes, found.span);
+    let told = Told {
+        number,
+        name: name_of(number),
+        lexeme: lexeme_in(text, bytes),
+    };
+    let at = located(text, place_of(source.name, text, bytes));
+    let wrong = match names_edited(host.alloc, text, bytes) {
+        Ok(true) => Wrong::Text,
+        Ok(false) => wrong_in(number),
+        Err(_) => return Failure::NoMemory,
+    };
+    said(wrong, report_at(host, at, told))
+}
+
+/// Says what else is refused, and answers with the failure that ends the run: one of the source's words comes before one of the tree that
+/// they make.
+fn report_further<S: Surroundings, E: Eprint, T>(
+    host: &mut Host<'_, S, E, T>,
+    source: Given<'_>,
     first: Failure<'static>,
-    further: &[Fault],
+    further: &[Found],
 ) -> Failure<'static> {
     let mut failure = first;
-    for fault in further {
-        let told = report_source(alloc, host, file, text, fault);
+    for found in further {
+        let told = report_found(host, source, *found);
         if matches!(told, Failure::Said(Wrong::Text)) {
             failure = told;
         }
@@ -102,32 +125,30 @@ fn place_of<'t>(file: &'t [u8], text: &'t [u8], bytes: Span) -> Place<'t> {
     }
 }
 
-/// Says a refusal of the compiler, at its line of the user's file.
-pub(crate) fn report_fault<H: Host>(
-    alloc: Global,
-    host: &mut H,
-    file: &[u8],
-    text: &[u8],
+/// Says a refusal at its line of the user's file.
+pub(crate) fn report_fault<S: Surroundings, E: Eprint, T>(
+    host: &mut Host<'_, S, E, T>,
+    source: Given<'_>,
     fault: &Fault,
 ) -> Failure<'static> {
-    if fault.number == 0 {
+    let Fault { number, name, .. } = *fault;
+    if number == 0 {
         return Failure::NoMemory;
     }
-    let at = match fault.line {
-        Some(line) => Some(located(text, user_place(file, text, line))),
-        None if file.is_empty() => None,
-        None => Some(Shown {
-            file,
+    let at = match fault.line() {
+        Some(line) => located(source.bytes, user_place(source.name, source.bytes, line)),
+        None => Shown {
+            file: source.name,
             line: None,
             columns: None,
-        }),
+        },
     };
     let told = Told {
-        number: fault.number,
-        name: fault.name,
+        number,
+        name,
         lexeme: b"",
     };
-    said(wrong_in(fault.number), report_at(alloc, host, at, told))
+    said(wrong_in(number), report_at(host, at, told))
 }
 
 /// Where dtc looks at what a source's words say, after all of them were read.
@@ -194,16 +215,14 @@ fn said(wrong: Wrong, reported: Result<(), AllocError>) -> Failure<'static> {
 }
 
 /// `Error: FILE:LINE.COLUMN-COLUMN: NAME: words: LEXEME`, as far as it is known.
-fn report_at<H: Host>(
-    alloc: Global,
-    host: &mut H,
-    at: Option<Shown<'_>>,
+fn report_at<S: Surroundings, E: Eprint, T>(
+    host: &mut Host<'_, S, E, T>,
+    at: Shown<'_>,
     told: Told<'_>,
 ) -> Result<(), AllocError> {
+    let alloc = host.alloc;
     let mut line = Vec::from_slice(alloc, b"Error: ")?;
-    if let Some(at) = at {
-        put_place(alloc, &mut line, at)?;
-    }
+    put_place(alloc, &mut line, at)?;
     let (name, words) = (told.name, words_of_number(told.number));
     line.extend_from_slice(format!(in alloc; "{name}: {words}")?.as_bytes())?;
     if !told.lexeme.is_empty() {
@@ -212,7 +231,7 @@ fn report_at<H: Host>(
         line.extend_from_slice(b"`")?;
     }
     line.extend_from_slice(b"\n")?;
-    host.report(line.as_slice());
+    host.tell(line.as_slice());
     Ok(())
 }
 
@@ -231,43 +250,42 @@ fn put_place(alloc: Global, line: &mut Vec<u8>, at: Shown<'_>) -> Result<(), All
 }
 
 /// Says where a text stops short that takes in others.
-pub(crate) fn report_shortfall<H: Host>(
-    alloc: Global,
-    host: &mut H,
+pub(crate) fn report_shortfall<S: Surroundings, E: Eprint, T>(
+    host: &mut Host<'_, S, E, T>,
     shortfall: Shortfall,
 ) -> Failure<'static> {
+    let Fault { number, name, .. } = shortfall_fault(&shortfall);
     let Shortfall { reason, site } = shortfall;
+    if number == 0 {
+        return Failure::NoMemory;
+    }
     let Some(site) = site else {
         return Failure::Incomplete(reason);
     };
-    let at = Some(Shown {
+    let at = Shown {
         file: site.file.as_slice(),
         line: Some(site.line),
         columns: Some(site.columns),
-    });
-    let (number, name) = match reason {
-        Incomplete::NoMemory => return Failure::NoMemory,
-        Incomplete::NoFile(_) => (80, "CannotRead"),
-        Incomplete::TooDeep => (16, "TooDeep"),
-        Incomplete::TooLong => (17, "TooLong"),
-        Incomplete::Syntax => (10, "Syntax"),
     };
     let told = Told {
         number,
         name,
         lexeme: b"",
     };
-    match report_at(alloc, host, at, told) {
+    match report_at(host, at, told) {
         Ok(()) => Failure::Incomplete(reason),
         Err(_) => Failure::NoMemory,
     }
 }
 
 /// Says why a run ended, and answers its exit status.
-pub(crate) fn fail<H: Host>(alloc: Global, host: &mut H, failure: &Failure<'_>) -> u8 {
+pub(crate) fn fail<S: Surroundings, E: Eprint, T>(
+    host: &mut Host<'_, S, E, T>,
+    failure: &Failure<'_>,
+) -> u8 {
     // Where there is no memory for the words, the status stands alone.
-    if let Ok(words) = words_of(alloc, failure) {
-        host.report(words.as_bytes());
+    if let Ok(words) = words_of(host.alloc, failure) {
+        host.tell(words.as_bytes());
     }
     match failure {
         Failure::Said(Wrong::Tree) => WRONG_TREE,
@@ -293,6 +311,7 @@ fn words_of(alloc: Global, failure: &Failure<'_>) -> Result<String, AllocError> 
         Failure::Said(Wrong::Tree) => format!(in alloc; "ERROR: Input tree has errors, aborting\n"),
         Failure::NotApplied(path) => format!(in alloc; "Failed to apply '{path}'\n"),
         Failure::TooLong => format!(in alloc; "FATAL ERROR: error 38 TooLarge\n"),
+        Failure::NoBlob => format!(in alloc; "FATAL ERROR: error 33 BadLayout\n"),
     }
 }
 

@@ -2,6 +2,7 @@
 //!
 //! dtc's manual (Documentation/manual.txt, section '4.1 Overview') says what stands in a source.
 
+use crate::compiling::Made;
 use crate::dtc::layout::{Form, Layout, Texts, form_of};
 use crate::dtc::marked_value::put_marked;
 use crate::dtc::markers::{Mark, Marker, Written, markers_of};
@@ -9,29 +10,10 @@ use dt_blob::{BlobError, read};
 use dt_live::making::Places;
 use dt_text::lexeme::{Kind, Language, Lexeme, scan_front};
 use dt_tree::{Node, Property, Tree};
+use dtman_blobs::{Labels, labels_of};
+use dtman_engine::MAX_SOURCE_LEN;
 use std::alloc::{AllocError, Global};
 use std::collections::BTreeMap;
-
-/// The most bytes that a source has.
-const MAX_TEXT: usize = 1 << 24;
-
-/// The tree of a source, and where the source's text has its nodes and properties.
-#[derive(Drop)]
-pub(crate) struct Placed {
-    pub(crate) tree: Tree,
-    pub(crate) places: Places,
-}
-
-/// A source: its text with all that it takes in, its tree, and its blob with the paths of all labelled nodes.
-#[derive(Clone, Copy)]
-pub(crate) struct Source<'t> {
-    pub(crate) text: &'t [u8],
-    pub(crate) placed: &'t Placed,
-    pub(crate) labelled: &'t [u8],
-}
-
-/// The labels of the node at each path.
-type Labels<'l> = BTreeMap<&'l [u8], Vec<&'l [u8]>>;
 
 /// What is known of a source.
 #[derive(Drop)]
@@ -98,37 +80,11 @@ fn numbers_of<'t>(
     Ok(numbers)
 }
 
-fn add_label<'t>(
-    alloc: Global,
-    labels: &mut Labels<'t>,
-    property: &'t Property,
-) -> Result<(), AllocError> {
-    let value = property.value.as_slice();
-    let path = value.strip_suffix(b"\0").unwrap_or(value);
-    let label = property.name.as_bytes();
-    if let Some(known) = labels.get_mut(path) {
-        return Ok(known.push(label)?);
+fn labels_in<'t>(alloc: Global, tree: Option<&'t Tree>) -> Result<Labels<'t>, AllocError> {
+    match tree {
+        Some(tree) => labels_of(alloc, tree),
+        None => Ok(BTreeMap::new(alloc)),
     }
-    let mut first = Vec::new(alloc);
-    first.push(label)?;
-    labels.insert(path, first)?;
-    Ok(())
-}
-
-// The labels of the nodes, by their paths.
-fn labels_of<'t>(alloc: Global, tree: Option<&'t Tree>) -> Result<Labels<'t>, AllocError> {
-    let mut labels = BTreeMap::new(alloc);
-    let Some(tree) = tree else {
-        return Ok(labels);
-    };
-    for child in tree.root().children() {
-        if child.name_bytes() == b"__symbols__".as_slice() {
-            for property in child.properties() {
-                add_label(alloc, &mut labels, property)?;
-            }
-        }
-    }
-    Ok(labels)
 }
 
 // How a value looks that nothing is known of.
@@ -365,7 +321,7 @@ fn sketched(
 }
 
 fn lexemes_of(alloc: Global, text: &[u8]) -> Result<Vec<Lexeme>, AllocError> {
-    if text.len() > MAX_TEXT {
+    if text.len() > MAX_SOURCE_LEN {
         return Ok(Vec::new(alloc));
     }
     let (lexemes, _) = scan_front(alloc, text, Language::Dtc)?;
@@ -376,8 +332,10 @@ fn lexemes_of(alloc: Global, text: &[u8]) -> Result<Vec<Lexeme>, AllocError> {
 fn tree_of(alloc: Global, blob: &[u8]) -> Result<Option<Tree>, BlobError> {
     match read(alloc, blob) {
         Ok(tree) => Ok(Some(tree)),
-        Err(BlobError::NoMemory) => Err(BlobError::NoMemory),
-        Err(_) => Ok(None),
+        Err(error) => match error.kind {
+            BlobError::NoMemory => Err(BlobError::NoMemory),
+            _ => Ok(None),
+        },
     }
 }
 
@@ -403,27 +361,29 @@ fn sketch_of<'t>(
     })
 }
 
-/// The text of the tree that a blob holds, as dtc prints the source that it was made of.
+/// The text of the tree that a blob holds, as dtc prints the source that it was made of. The labelled blob has the paths of all labelled
+/// nodes.
 pub(crate) fn source_text(
     alloc: Global,
     blob: &[u8],
-    source: Source<'_>,
+    source: &Made,
+    labelled: &[u8],
 ) -> Result<Vec<u8>, BlobError> {
     let tree = read(alloc, blob)?;
-    let labelled = tree_of(alloc, source.labelled)?;
-    let lexemes = lexemes_of(alloc, source.text)?;
-    let root = source.placed.tree.root();
+    let labelled = tree_of(alloc, labelled)?;
+    let lexemes = lexemes_of(alloc, source.text.as_slice())?;
+    let root = source.compiled.tree.root();
     let known = paths_of(alloc, root)?;
     let paths = paths_of(alloc, tree.root())?;
     let sketch = sketch_of(
         alloc,
-        source.text,
+        source.text.as_slice(),
         lexemes.as_slice(),
-        &source.placed.places,
+        &source.compiled.places,
         root,
         known.as_slice(),
         paths.as_slice(),
     )?;
-    let labels = labels_of(alloc, labelled.as_ref())?;
+    let labels = labels_in(alloc, labelled.as_ref())?;
     Ok(sketched(alloc, &tree, &sketch, &labels)?)
 }

@@ -1,10 +1,15 @@
 //! `fdtdump`: the words of a blob as they stand there, up to the first that is broken.
+ghost use Rattle.std.specs.Prelude.{◌≡◌, false};
 
-use crate::dtc::Host;
-use crate::fdt::reports::{DONE, Failure, VERSION, fail, read_file};
+use crate::dtc::VERSION;
+use crate::fdt::reports::{Failure, fail, put, read_file};
 use crate::fdt::tokens::{aligned, bytes_at, text_at, word_at};
 use crate::fdt::words::{Choice, read_words};
+use crate::host::Host;
+use crate::running::DONE;
+use crate::surroundings::Surroundings;
 use dtman_blobs::are_texts;
+use dtman_engine::Channel;
 use std::alloc::{AllocError, Global};
 
 const USAGE: &[u8] = b"Usage: fdtdump [options] <file>
@@ -64,32 +69,38 @@ struct Dumped<'a> {
 }
 
 /// Runs fdtdump by the words behind its name. Answers the exit status.
-pub fn run_fdtdump<H: Host>(alloc: Global, host: &mut H, words: &[&str]) -> u8 {
-    match dump(alloc, host, words) {
+pub fn run_fdtdump<S: Surroundings, O: Channel, E: Eprint, T>(
+    host: &mut Host<'_, S, E, T>,
+    output: &mut O,
+    words: &[&str],
+) -> u8
+    requires { O.has_failed output.old ≡ false }
+{
+    match dump(host, output, words) {
         Ok(()) => DONE,
-        Err(failure) => fail(alloc, host, USAGE, failure),
+        Err(failure) => fail(host, USAGE, failure),
     }
 }
 
-fn print<H: Host>(host: &mut H, text: &[u8]) -> Result<(), Failure<'static>> {
-    match host.write("-", text) {
-        Ok(()) => Ok(()),
-        Err(_) => Err(Failure::Unwritten("-")),
-    }
-}
-
-fn dump<'a, H: Host>(alloc: Global, host: &mut H, words: &[&'a str]) -> Result<(), Failure<'a>> {
+fn dump<'a, S: Surroundings, O: Channel, E: Eprint, T>(
+    host: &mut Host<'_, S, E, T>,
+    output: &mut O,
+    words: &[&'a str],
+) -> Result<(), Failure<'a>>
+    requires { O.has_failed output.old ≡ false }
+{
+    let alloc = host.alloc;
     let words = read_words(alloc, CHOICES, words)?;
     if words.has("h") {
-        return print(host, USAGE);
+        return put(output, USAGE);
     }
     if words.has("V") {
-        return print(host, VERSION);
+        return put(output, VERSION);
     }
     let [path] = words.others.as_slice() else {
         return Err(Failure::Usage("missing input filename"));
     };
-    let bytes = read_file(alloc, host, *path)?;
+    let bytes = read_file(host, *path)?;
     let mut head = Vec::new(alloc);
     let blob = if words.has("s") {
         found(alloc, &mut head, *path, bytes.as_slice())?
@@ -100,8 +111,8 @@ fn dump<'a, H: Host>(alloc: Global, host: &mut H, words: &[&'a str]) -> Result<(
         return Err(Failure::NoHeader(*path));
     }
     let dumped = dump_of(alloc, head, blob, words.has("d"))?;
-    print(host, dumped.out.as_slice())?;
-    host.report(dumped.told.as_slice());
+    put(output, dumped.out.as_slice())?;
+    host.tell(dumped.told.as_slice());
     Ok(())
 }
 
@@ -149,6 +160,14 @@ fn dump_of(
 fn add_text(out: &mut Vec<u8>, text: Result<String, AllocError>) -> Result<(), AllocError> {
     let text = text?;
     out.extend_from_slice(text.as_bytes())
+}
+
+// A number as C's `%#x` puts it: 0 stands alone.
+fn alternate_hex(alloc: Global, number: u64) -> Result<String, AllocError> {
+    if number == 0 {
+        return String::from_str(alloc, "0");
+    }
+    format!(in alloc; "0x{number:x}")
 }
 
 fn tag_name(tag: u32) -> &'static str {
@@ -270,9 +289,11 @@ impl Dumped<'_> {
             if size == 0 {
                 return Ok(());
             }
+            let address = alternate_hex(alloc, address)?;
+            let size = alternate_hex(alloc, size)?;
             add_text(
                 &mut self.out,
-                format!(in alloc; "/memreserve/ 0x{address:x} 0x{size:x};\n"),
+                format!(in alloc; "/memreserve/ {address} {size};\n"),
             )?;
             at = at.saturating_add(16);
         }

@@ -1,12 +1,17 @@
 //! `fdtget`: values, names of properties and names of children.
+ghost use Rattle.std.specs.Prelude.{◌≡◌, false};
 
-use crate::dtc::Host;
+use crate::dtc::VERSION;
 use crate::fdt::finding::{Lookup, find};
-use crate::fdt::reports::{DONE, Failure, VERSION, fail, fdt_error, read_file};
+use crate::fdt::reports::{Failure, fail, fdt_error, put, read_file};
 use crate::fdt::words::{Choice, Words, read_words};
+use crate::host::Host;
+use crate::running::DONE;
+use crate::surroundings::Surroundings;
 use dt_blob::{BlobError, read};
 use dt_tree::{Node, Tree};
 use dtman_blobs::{ShowError, ValueType, shown};
+use dtman_engine::Channel;
 use std::alloc::{AllocError, Global};
 
 const USAGE: &[u8] = b"Usage: print values of a device tree, each in a line
@@ -73,24 +78,30 @@ struct Manner<'a> {
 }
 
 /// Runs fdtget by the words behind its name. Answers the exit status.
-pub fn run_fdtget<H: Host>(alloc: Global, host: &mut H, words: &[&str]) -> u8 {
-    let mut out = Vec::new(alloc);
-    let done = print_all(alloc, host, words, &mut out);
-    if host.write("-", out.as_slice()).is_err() {
-        return fail(alloc, host, USAGE, Failure::Unwritten("-"));
+pub fn run_fdtget<S: Surroundings, O: Channel, E: Eprint, T>(
+    host: &mut Host<'_, S, E, T>,
+    output: &mut O,
+    words: &[&str],
+) -> u8
+    requires { O.has_failed output.old ≡ false }
+{
+    let mut out = Vec::new(host.alloc);
+    let done = print_all(host, words, &mut out);
+    if put(output, out.as_slice()).is_err() {
+        return fail(host, USAGE, Failure::Unwritten("-"));
     }
     match done {
         Ok(()) => DONE,
-        Err(failure) => fail(alloc, host, USAGE, failure),
+        Err(failure) => fail(host, USAGE, failure),
     }
 }
 
-fn print_all<'a, H: Host>(
-    alloc: Global,
-    host: &mut H,
+fn print_all<'a, S: Surroundings, E: Eprint, T>(
+    host: &mut Host<'_, S, E, T>,
     words: &[&'a str],
     out: &mut Vec<u8>,
 ) -> Result<(), Failure<'a>> {
+    let alloc = host.alloc;
     let words = read_words(alloc, CHOICES, words)?;
     if words.has("h") {
         return Ok(out.extend_from_slice(USAGE)?);
@@ -106,11 +117,13 @@ fn print_all<'a, H: Host>(
     let Some((path, nodes)) = words.others.as_slice().split_first() else {
         return Err(Failure::Usage("missing filename"));
     };
-    let blob = read_file(alloc, host, *path)?;
+    let blob = read_file(host, *path)?;
     match read(alloc, blob.as_slice()) {
         Ok(tree) => print_nodes(alloc, &tree, &words, manner, nodes, out),
-        Err(BlobError::NoMemory) => Err(Failure::NoMemory),
-        Err(error) => Err(Failure::At(*path, fdt_error(error))),
+        Err(error) => match error.kind {
+            BlobError::NoMemory => Err(Failure::NoMemory),
+            kind => Err(Failure::At(*path, fdt_error(kind))),
+        },
     }
 }
 

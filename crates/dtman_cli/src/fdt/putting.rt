@@ -1,13 +1,19 @@
 //! `fdtput`: properties and nodes set and removed in a blob.
+ghost use Rattle.std.specs.Prelude.{◌≡◌, false};
 
-use crate::dtc::Host;
+use crate::dtc::VERSION;
 use crate::fdt::finding::{Lookup, find};
 use crate::fdt::getting::kind_of;
-use crate::fdt::reports::{DONE, Failure, VERSION, fail, fdt_error, read_file};
+use crate::fdt::reports::{Failure, fail, fdt_error, put, read_file};
 use crate::fdt::words::{Choice, Words, read_words};
+use crate::files::put_at;
+use crate::host::Host;
+use crate::running::DONE;
+use crate::surroundings::Surroundings;
 use dt_blob::{BlobError, read, write};
 use dt_tree::{Bytes, Name, Path, Tree, TreeError};
 use dtman_blobs::{SayError, said};
+use dtman_engine::Channel;
 use std::alloc::Global;
 
 const USAGE: &[u8] = b"Usage: set a property of a device tree, or change its nodes
@@ -83,38 +89,44 @@ const EXISTS: &str = "FDT_ERR_EXISTS";
 const NO_SPACE: &str = "FDT_ERR_NOSPACE";
 
 /// Runs fdtput by the words behind its name. Answers the exit status. The blob is written anew once all is done.
-pub fn run_fdtput<H: Host>(alloc: Global, host: &mut H, words: &[&str]) -> u8 {
-    match put(alloc, host, words) {
+pub fn run_fdtput<S: Surroundings, O: Channel, E: Eprint, T>(
+    host: &mut Host<'_, S, E, T>,
+    output: &mut O,
+    words: &[&str],
+) -> u8
+    requires { O.has_failed output.old ≡ false }
+{
+    match done(host, output, words) {
         Ok(()) => DONE,
-        Err(failure) => fail(alloc, host, USAGE, failure),
+        Err(failure) => fail(host, USAGE, failure),
     }
 }
 
-fn put<'a, H: Host>(alloc: Global, host: &mut H, words: &[&'a str]) -> Result<(), Failure<'a>> {
+fn done<'a, S: Surroundings, O: Channel, E: Eprint, T>(
+    host: &mut Host<'_, S, E, T>,
+    output: &mut O,
+    words: &[&'a str],
+) -> Result<(), Failure<'a>>
+    requires { O.has_failed output.old ≡ false }
+{
+    let alloc = host.alloc;
     let words = read_words(alloc, CHOICES, words)?;
     if words.has("h") {
-        return print(host, USAGE);
+        return put(output, USAGE);
     }
     if words.has("V") {
-        return print(host, VERSION);
+        return put(output, VERSION);
     }
     let Some((path, others)) = words.others.as_slice().split_first() else {
         return Err(Failure::Usage("missing filename"));
     };
-    let blob = read_file(alloc, host, *path)?;
+    let blob = read_file(host, *path)?;
     let mut tree = match read(alloc, blob.as_slice()) {
         Ok(tree) => tree,
-        Err(error) => return Err(refused(*path, error)),
+        Err(error) => return Err(refused(*path, error.kind)),
     };
-    change(alloc, host, &mut tree, &words, others)?;
-    save(alloc, host, *path, &tree)
-}
-
-fn print<H: Host>(host: &mut H, text: &[u8]) -> Result<(), Failure<'static>> {
-    match host.write("-", text) {
-        Ok(()) => Ok(()),
-        Err(_) => Err(Failure::Unwritten("-")),
-    }
+    change(host, &mut tree, &words, others)?;
+    save(host, output, *path, &tree)
 }
 
 fn refused(path: &str, error: BlobError) -> Failure<'_> {
@@ -124,32 +136,34 @@ fn refused(path: &str, error: BlobError) -> Failure<'_> {
     }
 }
 
-fn save<'a, H: Host>(
-    alloc: Global,
-    host: &mut H,
+fn save<'a, S: Surroundings, O: Channel, E: Eprint, T>(
+    host: &mut Host<'_, S, E, T>,
+    output: &mut O,
     path: &'a str,
     tree: &Tree,
-) -> Result<(), Failure<'a>> {
+) -> Result<(), Failure<'a>>
+    requires { O.has_failed output.old ≡ false }
+{
     let Ok(hasher) = host.seed() else {
         return Err(Failure::Said("no random seed"));
     };
-    let bytes = match write(alloc, hasher, tree) {
+    let bytes = match write(host.alloc, hasher, tree) {
         Ok(bytes) => bytes,
         Err(error) => return Err(refused(path, error)),
     };
-    match host.write(path, bytes.as_slice()) {
+    match put_at(host.surroundings, output, path, bytes.as_slice()) {
         Ok(()) => Ok(()),
         Err(_) => Err(Failure::Unwritten(path)),
     }
 }
 
-fn change<'a, H: Host>(
-    alloc: Global,
-    host: &mut H,
+fn change<'a, S: Surroundings, E: Eprint, T>(
+    host: &mut Host<'_, S, E, T>,
     tree: &mut Tree,
     words: &Words<'a>,
     others: &[&'a str],
 ) -> Result<(), Failure<'a>> {
+    let alloc = host.alloc;
     let auto = words.has("p");
     if words.has("c") {
         return create_all(alloc, tree, others, auto);
@@ -176,14 +190,17 @@ fn change<'a, H: Host>(
         Err(SayError::NoNumber(word)) => return Err(Failure::NoNumber(word)),
     };
     if words.has("v") {
-        tell_size(alloc, host, value.len())?;
+        tell_size(host, value.len())?;
     }
     set(alloc, tree, *node, *property, value)
 }
 
-fn tell_size<H: Host>(alloc: Global, host: &mut H, size: usize) -> Result<(), Failure<'static>> {
-    let line = format!(in alloc; "Value size {size}\n")?;
-    host.report(line.as_bytes());
+fn tell_size<S: Surroundings, E: Eprint, T>(
+    host: &mut Host<'_, S, E, T>,
+    size: usize,
+) -> Result<(), Failure<'static>> {
+    let line = format!(in host.alloc; "Value size {size}\n")?;
+    host.tell(line.as_bytes());
     Ok(())
 }
 

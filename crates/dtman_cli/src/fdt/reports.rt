@@ -1,18 +1,16 @@
 //! Why a tool ends without its output, and how that is told.
+ghost use Rattle.std.specs.Prelude.{◌≡◌, false};
 
-use crate::dtc::Host;
 use crate::fdt::words::Unread;
+use crate::files::print;
+use crate::host::Host;
+use crate::surroundings::Surroundings;
 use dt_blob::BlobError;
+use dtman_engine::Channel;
 use std::alloc::{AllocError, Global};
 
-/// The status of a command line that was done.
-pub const DONE: u8 = 0;
-
-/// The status of all others.
+/// The status of a command line that wasn't done.
 pub const FAILED: u8 = 1;
-
-/// What `-V` prints.
-pub const VERSION: &[u8] = b"Version: DTC 1.6.1-dtman-0.3\n";
 
 /// Why a tool ends without its output.
 #[derive(Clone, Copy, Debug)]
@@ -82,25 +80,38 @@ fn line_of(alloc: Global, failure: Failure<'_>) -> Result<String, AllocError> {
 }
 
 /// Tells a failure on standard error, behind the usage where the words are wrong, and answers the status.
-pub fn fail<H: Host>(alloc: Global, host: &mut H, usage: &[u8], failure: Failure<'_>) -> u8 {
+pub fn fail<S: Surroundings, E: Eprint, T>(
+    host: &mut Host<'_, S, E, T>,
+    usage: &[u8],
+    failure: Failure<'_>,
+) -> u8 {
     if let Failure::Usage(_) = failure {
-        host.report(usage);
-        host.report(b"\n");
+        host.tell(usage);
+        host.tell(b"\n");
     }
-    match line_of(alloc, failure) {
-        Ok(line) => host.report(line.as_bytes()),
-        Err(_) => host.report(b"out of memory\n"),
+    match line_of(host.alloc, failure) {
+        Ok(line) => host.tell(line.as_bytes()),
+        Err(_) => host.tell(b"out of memory\n"),
     }
     FAILED
 }
 
+/// Prints what a tool answers.
+pub fn put<O: Channel>(output: &mut O, text: &[u8]) -> Result<(), Failure<'static>>
+    requires { O.has_failed output.old ≡ false }
+{
+    match print(output, text) {
+        Ok(()) => Ok(()),
+        Err(_) => Err(Failure::Unwritten("-")),
+    }
+}
+
 /// The bytes of a file.
-pub fn read_file<'a, H: Host>(
-    alloc: Global,
-    host: &mut H,
+pub fn read_file<'a, S: Surroundings, E: Eprint, T>(
+    host: &mut Host<'_, S, E, T>,
     path: &'a str,
 ) -> Result<Vec<u8>, Failure<'a>> {
-    match host.read(alloc, path) {
+    match host.blob(path) {
         Ok(bytes) => Ok(bytes),
         Err(_) => Err(Failure::Unopened(path)),
     }

@@ -1,13 +1,13 @@
 //! What each form of dtc's language that the profile hasn't comes to, worked by hand from dtc's pages and its edits: the blob is that of a
 //! source in the profile.
 
-use crate::dialect::desk::desk_of;
-use crate::dialect::engine::Engine;
-use dtman_cli::dtc::run_dtc;
+use crate::runs::{Left, left_by};
+use crate::shelf::Shelf;
 use dtman_engine::compile_bytes;
 use std::alloc::Global;
 use std::hash::RandomState;
 use std::process::Abort;
+use std::thread::Threads;
 
 /// A source behind `/dts-v1/;`, and what stands there in the profile.
 type Row = (&'static str, &'static str);
@@ -17,15 +17,21 @@ pub fn headed(rt: &impl Abort, alloc: Global, source: &str) -> String {
     format!(in alloc; "/dts-v1/;{source}").expect(rt, "memory")
 }
 
-fn comes_to(rt: &impl Abort, alloc: Global, hasher: RandomState, row: &Row) {
+/// A source's file, and one beside it.
+pub fn source_and_f<'f>(source: &'f [u8]) -> [(&'f str, &'f [u8]); 2] {
+    [("a.dts", source), ("f", b"12")]
+}
+
+fn comes_to<R: Abort + AllocGlobal + Threads + Sync>(rt: &R, hasher: RandomState, row: &Row) {
+    let alloc = rt.alloc();
     let source = headed(rt, alloc, row.0);
     let wanted = headed(rt, alloc, row.1);
-    let files = [("a.dts", source.as_bytes())];
-    let mut desk = desk_of(alloc, hasher, files.as_slice());
-    let status = run_dtc(alloc, &mut desk, &mut Engine, &["-q", "a.dts"]);
+    let files = source_and_f(source.as_bytes());
+    let mut shelf = Shelf::new(alloc, files.as_slice(), hasher);
+    let Left { status, text } = left_by(rt, &["dtc", "-q", "a.dts"], &mut shelf);
     assert_eq!(rt; status, 0);
     match compile_bytes(alloc, hasher, wanted.as_bytes(), false) {
-        Ok(blob) => assert_eq!(rt; desk.written.as_slice(), blob.as_slice()),
+        Ok(blob) => assert_eq!(rt; text.as_slice(), blob.as_slice()),
         Err(_) => panic!(rt; "refused"),
     }
 }
@@ -139,11 +145,14 @@ const FORMS: &[Row] = &[
 fn forms(rt: HostRuntime) {
     let hasher = RandomState::new(&rt).expect(&rt, "a seed");
     for row in FORMS {
-        comes_to(&rt, rt.alloc(), hasher, row);
+        comes_to(&rt, hasher, row);
     }
 }
 
-const BOOTS: &[(&[&str], u8)] = &[(&["-q", "a.dts"], 9), (&["-q", "-b", "7", "a.dts"], 7)];
+const BOOTS: &[(&[&str], u8)] = &[
+    (&["dtc", "-q", "a.dts"], 9),
+    (&["dtc", "-q", "-b", "7", "a.dts"], 7),
+];
 
 #[test]
 fn the_processor_that_boots(rt: HostRuntime) {
@@ -153,12 +162,9 @@ fn the_processor_that_boots(rt: HostRuntime) {
     )];
     let hasher = RandomState::new(&rt).expect(&rt, "a seed");
     for (words, processor) in BOOTS {
-        let mut desk = desk_of(rt.alloc(), hasher, FILES);
-        let status = run_dtc(rt.alloc(), &mut desk, &mut Engine, *words);
+        let mut shelf = Shelf::new(rt.alloc(), FILES, hasher);
+        let Left { status, text } = left_by(&rt, *words, &mut shelf);
         assert_eq!(&rt; status, 0);
-        assert_eq!(&rt;
-            desk.written.get(28..32),
-            Some([0, 0, 0, *processor].as_slice())
-        );
+        assert_eq!(&rt; text.get(28..32), Some([0, 0, 0, *processor].as_slice()));
     }
 }

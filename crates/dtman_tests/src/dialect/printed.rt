@@ -1,12 +1,12 @@
 //! What `-O dts` prints of a source, as dtc 1.6.1 does: labels stand, and values are as they were written.
 
-use crate::dialect::desk::desk_of;
-use crate::dialect::engine::Engine;
-use crate::dialect::forms::headed;
-use dtman_cli::dtc::run_dtc;
+use crate::dialect::forms::{headed, source_and_f};
+use crate::runs::{Left, left_by};
+use crate::shelf::Shelf;
 use std::alloc::Global;
 use std::hash::RandomState;
 use std::process::Abort;
+use std::thread::Threads;
 
 /// A source behind `/dts-v1/;`, and the text behind the root's line.
 type Row = (&'static str, &'static str);
@@ -47,25 +47,21 @@ fn with_head(rt: &impl Abort, alloc: Global, text: &str) -> String {
     format!(in alloc; "/dts-v1/;\n\n/ {{\n{text}").expect(rt, "memory")
 }
 
-fn prints(rt: &impl Abort, alloc: Global, hasher: RandomState, row: &Row) {
+fn prints<R: Abort + AllocGlobal + Threads + Sync>(rt: &R, hasher: RandomState, row: &Row) {
+    let alloc = rt.alloc();
     let source = headed(rt, alloc, row.0);
     let wanted = with_head(rt, alloc, row.1);
-    let files = [("a.dts", source.as_bytes())];
-    let mut desk = desk_of(alloc, hasher, files.as_slice());
-    let status = run_dtc(
-        alloc,
-        &mut desk,
-        &mut Engine,
-        &["-qq", "-O", "dts", "a.dts"],
-    );
+    let files = source_and_f(source.as_bytes());
+    let mut shelf = Shelf::new(alloc, files.as_slice(), hasher);
+    let Left { status, text } = left_by(rt, &["dtc", "-qq", "-O", "dts", "a.dts"], &mut shelf);
     assert_eq!(rt; status, 0);
-    assert_eq!(rt; desk.written.as_slice(), wanted.as_bytes());
+    assert_eq!(rt; text.as_slice(), wanted.as_bytes());
 }
 
 #[test]
 fn sources_are_printed_as_they_were_written(rt: HostRuntime) {
     let hasher = RandomState::new(&rt).expect(&rt, "a seed");
     for row in ROWS {
-        prints(&rt, rt.alloc(), hasher, row);
+        prints(&rt, hasher, row);
     }
 }

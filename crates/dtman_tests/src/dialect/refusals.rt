@@ -1,34 +1,41 @@
 //! What is refused of sources in dtc's language: the status and the place, as dtc 1.6.1 answered by hand (but for the root that is
 //! deleted, which it takes, and where it tells no place), and the words.
 
-use crate::dialect::desk::desk_of;
-use crate::dialect::engine::Engine;
-use crate::dialect::forms::headed;
-use dtman_cli::dtc::run_dtc;
-use std::alloc::Global;
+use crate::dialect::forms::{headed, source_and_f};
+use crate::runs::{Left, left_by};
+use crate::shelf::Shelf;
 use std::hash::RandomState;
 use std::process::Abort;
+use std::thread::Threads;
 
 /// A source behind `/dts-v1/;`, the place of its refusal with the name, and the words that are refused.
 type Row = (&'static str, &'static str, &'static str);
 
-fn told(rt: &impl Abort, alloc: Global, hasher: RandomState, source: &str) -> (u8, String) {
-    let headed = headed(rt, alloc, source);
-    let files = [("a.dts", headed.as_bytes())];
-    let mut desk = desk_of(alloc, hasher, files.as_slice());
-    let status = run_dtc(alloc, &mut desk, &mut Engine, &["-q", "a.dts"]);
-    let text = std::str::from_utf8(desk.written.as_slice()).expect(rt, "text");
-    (status, String::from_str(alloc, text).expect(rt, "memory"))
+fn told<R: Abort + AllocGlobal + Threads + Sync>(
+    rt: &R,
+    hasher: RandomState,
+    source: &str,
+) -> Left {
+    let headed = headed(rt, rt.alloc(), source);
+    let files = source_and_f(headed.as_bytes());
+    let mut shelf = Shelf::new(rt.alloc(), files.as_slice(), hasher);
+    left_by(rt, &["dtc", "-q", "a.dts"], &mut shelf)
 }
 
-fn is_refused(rt: &impl Abort, alloc: Global, hasher: RandomState, row: &Row, wanted: (u8, &str)) {
+fn is_refused<R: Abort + AllocGlobal + Threads + Sync>(
+    rt: &R,
+    hasher: RandomState,
+    row: &Row,
+    wanted: (u8, &str),
+) {
+    let alloc = rt.alloc();
     let (source, place, words) = *row;
-    let (status, text) = told(rt, alloc, hasher, source);
+    let Left { status, text } = told(rt, hasher, source);
     assert_eq!(rt; status, wanted.0);
     let head = format!(in alloc; "Error: {place}: ").expect(rt, "memory");
     let tail = format!(in alloc; ": `{words}`\n{}\n", wanted.1).expect(rt, "memory");
-    assert!(rt; text.as_str().starts_with(head.as_str()));
-    assert!(rt; text.as_str().ends_with(tail.as_str()));
+    assert!(rt; text.as_slice().starts_with(head.as_bytes()));
+    assert!(rt; text.as_slice().ends_with(tail.as_bytes()));
 }
 
 /// Wrong in the words of the source.
@@ -129,7 +136,7 @@ fn in_the_words_of_a_source(rt: HostRuntime) {
     let hasher = RandomState::new(&rt).expect(&rt, "a seed");
     let wanted = (1, "FATAL ERROR: Unable to parse input tree");
     for row in IN_WORDS {
-        is_refused(&rt, rt.alloc(), hasher, row, wanted);
+        is_refused(&rt, hasher, row, wanted);
     }
 }
 
@@ -138,6 +145,6 @@ fn in_the_tree(rt: HostRuntime) {
     let hasher = RandomState::new(&rt).expect(&rt, "a seed");
     let wanted = (2, "ERROR: Input tree has errors, aborting");
     for row in IN_THE_TREE {
-        is_refused(&rt, rt.alloc(), hasher, row, wanted);
+        is_refused(&rt, hasher, row, wanted);
     }
 }

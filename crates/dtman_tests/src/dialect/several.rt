@@ -1,12 +1,11 @@
 //! Sources with several faults: dtc 1.6.1 tells the same ones by hand, in the same order.
 
-use crate::dialect::desk::desk_of;
-use crate::dialect::engine::Engine;
 use crate::dialect::forms::headed;
-use dtman_cli::dtc::run_dtc;
-use std::alloc::Global;
+use crate::runs::{Left, left_by};
+use crate::shelf::Shelf;
 use std::hash::RandomState;
 use std::process::Abort;
+use std::thread::Threads;
 
 /// A source behind `/dts-v1/;`, the exit status, and of each fault its place with the name.
 type Row = (&'static str, u8, &'static [&'static str]);
@@ -120,14 +119,15 @@ fn alone<'f>(name: &'f str, text: &'f [u8]) -> [(&'f str, &'f [u8]); 1] {
     [(name, text)]
 }
 
-fn are_told(rt: &impl Abort, alloc: Global, hasher: RandomState, row: &Row) {
+fn are_told<R: Abort + AllocGlobal + Threads + Sync>(rt: &R, hasher: RandomState, row: &Row) {
+    let alloc = rt.alloc();
     let (source, wanted, places) = *row;
     let headed = headed(rt, alloc, source);
     let files = alone("a.dts", headed.as_bytes());
-    let mut desk = desk_of(alloc, hasher, files.as_slice());
-    let status = run_dtc(alloc, &mut desk, &mut Engine, &["-q", "a.dts"]);
+    let mut shelf = Shelf::new(alloc, files.as_slice(), hasher);
+    let Left { status, text } = left_by(rt, &["dtc", "-q", "a.dts"], &mut shelf);
     assert_eq!(rt; status, wanted);
-    let text = std::str::from_utf8(desk.written.as_slice()).expect(rt, "text");
+    let text = std::str::from_utf8(text.as_slice()).expect(rt, "text");
     let mut told = text.split("\n");
     for place in places {
         let line = told.next().expect(rt, "a fault");
@@ -143,7 +143,7 @@ fn are_told(rt: &impl Abort, alloc: Global, hasher: RandomState, row: &Row) {
 fn several_faults_in_the_words(rt: HostRuntime) {
     let hasher = RandomState::new(&rt).expect(&rt, "a seed");
     for row in IN_WORDS {
-        are_told(&rt, rt.alloc(), hasher, row);
+        are_told(&rt, hasher, row);
     }
 }
 
@@ -151,7 +151,7 @@ fn several_faults_in_the_words(rt: HostRuntime) {
 fn several_faults_in_the_tree(rt: HostRuntime) {
     let hasher = RandomState::new(&rt).expect(&rt, "a seed");
     for row in IN_THE_TREE {
-        are_told(&rt, rt.alloc(), hasher, row);
+        are_told(&rt, hasher, row);
     }
 }
 
@@ -159,6 +159,6 @@ fn several_faults_in_the_tree(rt: HostRuntime) {
 fn several_faults_behind_words_that_cannot_follow(rt: HostRuntime) {
     let hasher = RandomState::new(&rt).expect(&rt, "a seed");
     for row in BEHIND_WORDS {
-        are_told(&rt, rt.alloc(), hasher, row);
+        are_told(&rt, hasher, row);
     }
 }

@@ -5,14 +5,16 @@
 use crate::engine::compiling::compiled;
 use crate::engine::overlaying::{BASE, deep_overlay};
 use dtman_diagnosis::{diagnose_overlay, example_of, text_of};
+use dtman_engine::{Culprit, overlay_bytes};
 use std::alloc::Global;
 use std::hash::RandomState;
 use std::process::Abort;
 
-/// The lines of a refusal of an overlay, both as blobs in these files.
+/// The lines of a refusal of an overlay by this number, both as blobs in these files.
 fn lines_of(
     rt: &impl Abort,
     alloc: Global,
+    hasher: RandomState,
     names: (&str, &str),
     base: &[u8],
     overlay: &[u8],
@@ -20,6 +22,14 @@ fn lines_of(
     number: u8,
 ) -> String {
     let (base_file, overlay_file) = names;
+    let Err(fault) = overlay_bytes(alloc, hasher, base, overlay) else {
+        panic!(rt; "a refusal");
+    };
+    assert_eq!(rt; fault.number, number);
+    let error = match fault.culprit {
+        Some(Culprit::Overlay(error)) => Some(error),
+        _ => None,
+    };
     let diagnosis = diagnose_overlay(
         alloc,
         base_file.as_bytes(),
@@ -27,6 +37,7 @@ fn lines_of(
         overlay_file.as_bytes(),
         overlay,
         number,
+        error,
     )
     .expect(rt, "a diagnosis");
     text_of(alloc, first, &diagnosis).expect(rt, "a text")
@@ -48,7 +59,7 @@ fn row_shows(rt: &impl Abort, alloc: Global, hasher: RandomState, names: (&str, 
         panic!(rt; "lines");
     };
     let (base, overlay) = (base.as_slice(), overlay.as_slice());
-    let text = lines_of(rt, alloc, names, base, overlay, first, row.number);
+    let text = lines_of(rt, alloc, hasher, names, base, overlay, first, row.number);
     assert_eq!(rt; text.as_str(), row.lines);
 }
 
@@ -291,7 +302,16 @@ fn deep_shows(rt: &impl Abort, alloc: Global, hasher: RandomState, target: &str,
     );
     let overlay = compiled(rt, alloc, hasher, overlay.as_str(), false);
     let (base, overlay) = (base.as_slice(), overlay.as_slice());
-    let text = lines_of(rt, alloc, FILES, base, overlay, "error 46 TooDeep", 46);
+    let text = lines_of(
+        rt,
+        alloc,
+        hasher,
+        FILES,
+        base,
+        overlay,
+        "error 46 TooDeep",
+        46,
+    );
     assert!(rt;
         text.as_str().starts_with(
             "error 46 TooDeep\no.dtbo: a node would lie deeper than 64 levels\n = in /fragment@0/__overlay__/n/n/n"
@@ -341,7 +361,16 @@ fn example_shows(
         panic!(rt; "lines");
     };
     let (base, overlay) = (base.as_slice(), overlay.as_slice());
-    let text = lines_of(rt, alloc, ("BASE", "OVERLAY"), base, overlay, first, number);
+    let text = lines_of(
+        rt,
+        alloc,
+        hasher,
+        ("BASE", "OVERLAY"),
+        base,
+        overlay,
+        first,
+        number,
+    );
     assert_eq!(rt; text.as_str(), lines);
 }
 
@@ -393,7 +422,16 @@ fn blobs(rt: HostRuntime) {
     let hasher = RandomState::new(&rt).expect(&rt, "a seed");
     let base = compiled(&rt, rt.alloc(), hasher, BASE, true);
     let short = b"\xd0\x0d\xfe\xed".as_slice();
-    let text = lines_of(&rt, rt.alloc(), FILES, short, b"", "error 30 Truncated", 30);
+    let text = lines_of(
+        &rt,
+        rt.alloc(),
+        hasher,
+        FILES,
+        short,
+        b"",
+        "error 30 Truncated",
+        30,
+    );
     assert_eq!(rt;
         text.as_str(),
         "error 30 Truncated\nb.dtb:0x4: the blob is cut\n = wanted is a header of 40 bytes\n"
@@ -401,6 +439,7 @@ fn blobs(rt: HostRuntime) {
     let text = lines_of(
         &rt,
         rt.alloc(),
+        hasher,
         FILES,
         base.as_slice(),
         short,

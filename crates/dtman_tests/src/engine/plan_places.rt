@@ -5,7 +5,7 @@
 use crate::engine::answers::printed;
 use crate::engine::compiling::compiled;
 use dtman_diagnosis::{diagnose_plan, example_of, text_of};
-use dtman_engine::plan_bytes;
+use dtman_engine::{Culprit, plan_bytes};
 use std::alloc::Global;
 use std::hash::RandomState;
 use std::process::Abort;
@@ -28,13 +28,11 @@ fn is_told(
         panic!(rt; "lines");
     };
     assert_eq!(rt; printed(rt, alloc, Err(fault)).as_slice(), first.as_bytes());
-    let diagnosis = diagnose_plan(
-        alloc,
-        file.as_bytes(),
-        blob.as_slice(),
-        number,
-        fault.culprit,
-    );
+    let property = match fault.culprit {
+        Some(Culprit::Property(property)) => Some(property),
+        _ => None,
+    };
+    let diagnosis = diagnose_plan(alloc, file.as_bytes(), blob.as_slice(), number, property);
     let text = text_of(alloc, first, &diagnosis.expect(rt, "a diagnosis")).expect(rt, "a text");
     assert_eq!(rt; text.as_str(), lines);
 }

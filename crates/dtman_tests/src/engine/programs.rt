@@ -9,8 +9,6 @@ mod overlaying;
 mod probing;
 mod questions;
 mod replaying;
-mod runs;
-mod shelf;
 mod standard;
 mod statuses;
 mod verbose;

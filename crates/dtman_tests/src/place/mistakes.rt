@@ -46,7 +46,7 @@ const ROWS: &[Row] = &[
         language: Language::Dtc,
         number: 10,
         source: "/dts-v1/;\n/ {\n\tsoc {\n\t\ta;\n\n\tcpu {\n\t};\n};\n",
-        lines: "refused\nboard.dts:8:2: the text ends, and more must follow\n  |\n8 | };\n  |  ^\n  = in /\n  = by its indentation the body that begins at board.dts:3:6 should end before board.dts:8:1\n",
+        lines: "refused\nboard.dts:8:2: the text ends, and more must follow\n  |\n8 | };\n  |  ^\n  = in /\n  = by its indentation the body that begins at board.dts:3:6 should end before board.dts:6:2\n",
     },
     Row {
         language: Language::Profile,

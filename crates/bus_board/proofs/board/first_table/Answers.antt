@@ -1,5 +1,5 @@
 use Rattle.std.proofs.Common.{ℕ, List, sym, subst}
-use Rattle.bus_board.proofs.Seats.{opening_holds}
+use Rattle.bus_board.proofs.SeatsInTurn.{opening_holds}
 use Rattle.bus_board.specs.Opening.{AreFirst}
 use Rattle.bus_board.proofs.board.first_table.Goals as goal
 

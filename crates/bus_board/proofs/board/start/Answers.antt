@@ -1,6 +1,6 @@
 use Rattle.std.proofs.Common.{ap}
 use Rattle.atomic_table.specs.Table.{Me}
-use Rattle.bus_board.proofs.Seats.{opens_as}
+use Rattle.bus_board.proofs.SeatsInTurn.{opens_as}
 use Rattle.bus_board.specs.declared.view.View.{View}
 use Rattle.bus_board.proofs.board.start.Goals as goal
 

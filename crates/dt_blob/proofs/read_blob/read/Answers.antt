@@ -9,37 +9,37 @@ use Rattle.dt_blob.proofs.read_blob.read.Goals as goal
 pub returns-in_err-tree-clause-only : goal.returns-in_err-tree-clause-only
 returns-in_err-tree-clause-only c =
     let p = err_from_is_err_and c.from_residual.result c.from_residual.ensures.1 in
-    λ tree h. rw (p.1, p.2) (only_memory c.args.bytes.now c.in_err-tree.field-0.0 tree c.in_err-tree.ensures h)
+    λ tree h. rw (p.1, p.2) (only_memory c.args.bytes.now c.in_err-tree.field-0.0.kind tree c.in_err-tree.ensures.0 h)
 
 pub returns-in_err-tree-clause-too_large : goal.returns-in_err-tree-clause-too_large
 returns-in_err-tree-clause-too_large c =
     let p = err_from_is_err_and c.from_residual.result c.from_residual.ensures.1 in
-    rw (p.1, p.2) (kind_of errors.TooLarge c.in_err-tree.field-0.0 c.args.bytes.now (λ x. cc x) (λ x. x) c.in_err-tree.ensures)
+    rw (p.1, p.2) (kind_of errors.TooLarge c.in_err-tree.field-0.0.kind c.args.bytes.now (λ x. cc x) (λ x. x) c.in_err-tree.ensures.0)
 
 pub returns-in_err-tree-clause-truncated : goal.returns-in_err-tree-clause-truncated
 returns-in_err-tree-clause-truncated c =
     let p = err_from_is_err_and c.from_residual.result c.from_residual.ensures.1 in
-    rw (p.1, p.2) (kind_of errors.Truncated c.in_err-tree.field-0.0 c.args.bytes.now (λ x. cc x) (λ x. x) c.in_err-tree.ensures)
+    rw (p.1, p.2) (kind_of errors.Truncated c.in_err-tree.field-0.0.kind c.args.bytes.now (λ x. cc x) (λ x. x) c.in_err-tree.ensures.0)
 
 pub returns-in_err-tree-clause-bad_magic : goal.returns-in_err-tree-clause-bad_magic
 returns-in_err-tree-clause-bad_magic c =
     let p = err_from_is_err_and c.from_residual.result c.from_residual.ensures.1 in
-    rw (p.1, p.2) (kind_of errors.BadMagic c.in_err-tree.field-0.0 c.args.bytes.now (λ x. cc x) (λ x. x) c.in_err-tree.ensures)
+    rw (p.1, p.2) (kind_of errors.BadMagic c.in_err-tree.field-0.0.kind c.args.bytes.now (λ x. cc x) (λ x. x) c.in_err-tree.ensures.0)
 
 pub returns-in_err-tree-clause-bad_version : goal.returns-in_err-tree-clause-bad_version
 returns-in_err-tree-clause-bad_version c =
     let p = err_from_is_err_and c.from_residual.result c.from_residual.ensures.1 in
-    rw (p.1, p.2) (kind_of errors.BadVersion c.in_err-tree.field-0.0 c.args.bytes.now (λ x. cc x) (λ x. x) c.in_err-tree.ensures)
+    rw (p.1, p.2) (kind_of errors.BadVersion c.in_err-tree.field-0.0.kind c.args.bytes.now (λ x. cc x) (λ x. x) c.in_err-tree.ensures.0)
 
 pub returns-in_err-tree-clause-bad_layout : goal.returns-in_err-tree-clause-bad_layout
 returns-in_err-tree-clause-bad_layout c =
     let p = err_from_is_err_and c.from_residual.result c.from_residual.ensures.1 in
-    rw (p.1, p.2) (layout_of c.in_err-tree.field-0.0 c.args.bytes.now c.in_err-tree.ensures)
+    rw (p.1, p.2) (layout_of c.in_err-tree.field-0.0.kind c.args.bytes.now c.in_err-tree.ensures.0)
 
 pub returns-in_err-tree-clause-no_end : goal.returns-in_err-tree-clause-no_end
 returns-in_err-tree-clause-no_end c =
     let p = err_from_is_err_and c.from_residual.result c.from_residual.ensures.1 in
-    rw (p.1, p.2) (end_of c.in_err-tree.field-0.0 c.args.bytes.now c.in_err-tree.ensures)
+    rw (p.1, p.2) (end_of c.in_err-tree.field-0.0.kind c.args.bytes.now c.in_err-tree.ensures.0)
 
 pub returns-clause-found : goal.returns-clause-found
 returns-clause-found c =

@@ -10,13 +10,13 @@ use Rattle.dt_blob.proofs.read_nodes.finish.Goals.{else-is_sized-via-then-is_siz
 pub returns-then-not-is_empty : goal.returns-then-not-is_empty
 returns-then-not-is_empty c =
     let more : 0 < length c.args.rest.now = grind (arith, nat_tests, c.is_empty.ensures, c.if-not-is_empty.true) in
-    ap (λ (b : Bool). root_from (state_of c.args.progress) (end ∷ left b c.args.rest.now)) c.if-is_sized.true ∙ some_left (state_of c.args.progress) c.args.rest.now more
+    rw c.refused.ensures.kind (ap (λ (b : Bool). root_from (state_of c.args.progress) (end ∷ left b c.args.rest.now)) c.if-is_sized.true ∙ some_left (state_of c.args.progress) c.args.rest.now more)
 
 pub returns-in-Nothing : goal.returns-in-Nothing
-returns-in-Nothing c = rw (c.in-Nothing.is) (end_begun _)
+returns-in-Nothing c = rw (c.in-Nothing.is, c.refused-in-Nothing.ensures.kind) (end_begun _)
 
 pub returns-in-Inside : goal.returns-in-Inside
-returns-in-Inside c = rw (c.in-Inside.is) (end_inside _ _ _)
+returns-in-Inside c = rw (c.in-Inside.is, c.refused-in-Inside.ensures.kind) (end_inside _ _ _)
 
 pub returns : goal.returns
 returns c =

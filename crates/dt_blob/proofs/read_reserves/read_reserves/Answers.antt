@@ -1,4 +1,4 @@
-use Rattle.std.proofs.Common.{◌≡◌, inr, refl, false, ◌&&◌, ◌==◌, sym, ap, ◌∙◌, arith}
+use Rattle.std.proofs.Common.{◌≡◌, inr, false, ◌&&◌, ◌==◌, sym, ap, ◌∙◌, arith}
 use Rattle.std.proofs.lemmas.Bool.Decides.{nat_tests}
 use Rattle.byteorder.specs.Endian.{big_number}
 use Rattle.dt_blob.specs.Steps.Reading.{reserves_at}
@@ -10,7 +10,7 @@ pub pairs-init : goal.pairs-init
 pairs-init c = joins_begin c.args.bytes.now _ c.new-reserves.ensures.items
 
 pub returns-then-rest-lt-RESERVATION_SIZE : goal.returns-then-rest-lt-RESERVATION_SIZE
-returns-then-rest-lt-RESERVATION_SIZE c = inr (refl, joins_short c.pairs.rest.now _ _ c.if-rest-lt-RESERVATION_SIZE.true c.pairs.invariant)
+returns-then-rest-lt-RESERVATION_SIZE c = inr (c.refused.ensures.kind, joins_short c.pairs.rest.now _ _ c.if-rest-lt-RESERVATION_SIZE.true c.pairs.invariant)
 
 pub returns-then-size-eq0 : goal.returns-then-size-eq0
 returns-then-size-eq0 c =

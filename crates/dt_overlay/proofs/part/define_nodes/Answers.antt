@@ -1,4 +1,5 @@
-use Rattle.std.proofs.Common.{◌≡◌, ◌<◌, ◌≤◌, ◌-◌, ◌+◌, ◌||◌, ℕ, suc, List, length, get_or, slice_index_or, map, refl, sym, ap, ◌∙◌, arith}
+use Rattle.std.proofs.Common.{◌≡◌, ◌<◌, ◌≤◌, ◌-◌, ◌+◌, ◌||◌, ℕ, suc, List, is_some, length, get_or, slice_index_or, map, refl, sym, ap, ◌∙◌, arith}
+use Rattle.std.specs.Prelude.{nat_lt}
 use Rattle.std.specs.List.{list_any}
 use Rattle.dt_live.specs.declared.live_tree.NodeRow.{NodeRow}
 use Rattle.dt_live.specs.Rows.{IsGrown, node_path}
@@ -10,9 +11,8 @@ use Rattle.dt_source.specs.OverlayMeaning.Applied.{moved, with_nodes}
 use Rattle.dt_overlay.specs.Private.Merging.{IsInside, IsPart}
 use Rattle.dt_overlay.proofs.PartLists.{nodes-start, nodes-end}
 use Rattle.dt_live.proofs.BlankRows.{blank_row}
-use Rattle.dt_overlay.proofs.PartSteps.{deep-else, deep-more, deep-then, first-base_nodes, inside-more, more-base_nodes, new-base_node, or-false, parent-base_node, rest-more, row-is}
+use Rattle.dt_overlay.proofs.PartSteps.{deep-more, first-base_nodes, inside-more, more-base_nodes, new-base_node, or-false, parent-base_node, rest-more, row-is}
 use Rattle.dt_overlay.proofs.part.define_nodes.Goals as goal
-use Rattle.dt_overlay.proofs.part.define_nodes.Goals.{then-depth-gt-MAX_DEPTH, else-depth-gt-MAX_DEPTH}
 
 -- what was noted up to a row whose parent stands before the body is the part
 ended : (rows given : List NodeRow) (b n : ℕ) → given ≡ rows → b < n → n ≤ suc (length rows) → IsInside rows b n
@@ -76,8 +76,8 @@ returns-then-row-body-clause-deep c =
     let same = c.nodes-nodes.ensures in
     let known : n ≤ suc (length over.nodes.items) = omega (arith, c.loop-node-test.true, ap length same) in
     let part = ended over.nodes.items c.nodes-nodes.result.now b n same i.low known i.inside c.if-row-body.true in
-    or-false c.loop-node.is_deep
-    ∙ ap (λ ps. c.loop-node.is_deep || list_any is_too_deep ps) (sym (nodes-end over c.requires.patched.whole c.requires.ordered b c.requires.body c.requires.top t n part)) ∙ i.deep
+    or-false (is_some c.loop-node.deep)
+    ∙ ap (λ ps. is_some c.loop-node.deep || list_any is_too_deep ps) (sym (nodes-end over c.requires.patched.whole c.requires.ordered b c.requires.body c.requires.top t n part)) ∙ i.deep
 
 pub returns-then-row-body-clause-part : goal.returns-then-row-body-clause-part
 returns-then-row-body-clause-part c =
@@ -158,11 +158,7 @@ loop-node-preserved c =
     let base_nodes = c.loop-node.base_nodes in
     let here = new-base_node over whole ordered b known top t d base_nodes n k at (get_or c.nodes-nodes.result.now (n - 1) blank_row) row i.low lt i.inside i.base_nodes low new base_node e.known e.there e.made in
     let length-here : c.depth.result ≡ length (moved t (node_path over n)) = c.depth.ensures ∙ ap length here.path in
-    let noted : c.if-depth-gt-MAX_DEPTH.is_deep ≡ (c.loop-node.is_deep || is_too_deep (moved t (node_path over n))) = elim c.if-depth-gt-MAX_DEPTH.branch [
-      | then-depth-gt-MAX_DEPTH w ↦ deep-then c.loop-node.is_deep c.if-depth-gt-MAX_DEPTH.is_deep c.depth.result (moved t (node_path over n)) w.is_deep-is w.if-depth-gt-MAX_DEPTH.true length-here
-      | else-depth-gt-MAX_DEPTH w ↦
-          deep-else c.loop-node.is_deep c.if-depth-gt-MAX_DEPTH.is_deep c.depth.result (moved t (node_path over n)) w.is_deep-is (let far = w.if-depth-gt-MAX_DEPTH.false in omega (arith, far)) length-here
-    ] in
+    let noted : is_some c.first_deep-deep.result ≡ (is_some c.loop-node.deep || is_too_deep (moved t (node_path over n))) = c.first_deep-deep.ensures ∙ ap (λ m. is_some c.loop-node.deep || nat_lt 64 m) length-here in
     record {
       low = omega (arith, i.low);
       high = omega (arith, c.loop-node-test.true);
@@ -175,5 +171,5 @@ loop-node-preserved c =
       base_nodes = more-base_nodes over d new t b n base_nodes base_node e.kept i.base_nodes (omega (arith, i.room, c.requires.room, c.loop-node-test.true, ap length c.nodes-nodes.ensures)) here;
       rest = rest-more over whole ordered b known top t d base_nodes n k at (get_or c.nodes-nodes.result.now (n - 1) blank_row) row i.low lt i.inside i.base_nodes low new e.state ∙ i.rest;
       properties = ap (λ s. map plain s.properties) e.state ∙ i.properties;
-      deep = deep-more over whole ordered b known top t d base_nodes n k at (get_or c.nodes-nodes.result.now (n - 1) blank_row) row i.low lt i.inside i.base_nodes low c.loop-node.is_deep c.if-depth-gt-MAX_DEPTH.is_deep noted ∙ i.deep;
+      deep = deep-more over whole ordered b known top t d base_nodes n k at (get_or c.nodes-nodes.result.now (n - 1) blank_row) row i.low lt i.inside i.base_nodes low (is_some c.loop-node.deep) (is_some c.first_deep-deep.result) noted ∙ i.deep;
     }

@@ -1,4 +1,4 @@
-use Rattle.std.proofs.Common.{◌≡◌, ◌<◌, ◌≤◌, ◌||◌, length, slice_index_or}
+use Rattle.std.proofs.Common.{◌≡◌, ◌<◌, ◌≤◌, ◌||◌, is_some, length, slice_index_or}
 use Rattle.std.specs.List.{list_any}
 use Rattle.dt_live.specs.ByRow.{KeepsRows}
 use Rattle.dt_live.specs.Rows.{IsLiveTree, node_path, state_of}
@@ -24,6 +24,6 @@ invariant-loop-node l = record {
   rest : with_nodes (nodes_left l.patched.live l.body (node_path l.fn.live (slice_index_or l.fn.base_nodes l.body 0)) l.node) (lists l.live).nodes
       ≡ with_nodes (part_below (patched_lists l.patched) (node_path l.patched.live l.body) (node_path l.fn.live (slice_index_or l.fn.base_nodes l.body 0))).nodes (lists l.fn.live).nodes;
   properties : (lists l.live).properties ≡ (lists l.fn.live).properties;
-  deep : (l.is_deep || list_any is_too_deep (nodes_left l.patched.live l.body (node_path l.fn.live (slice_index_or l.fn.base_nodes l.body 0)) l.node))
+  deep : (is_some l.deep || list_any is_too_deep (nodes_left l.patched.live l.body (node_path l.fn.live (slice_index_or l.fn.base_nodes l.body 0)) l.node))
       ≡ list_any is_too_deep (part_below (patched_lists l.patched) (node_path l.patched.live l.body) (node_path l.fn.live (slice_index_or l.fn.base_nodes l.body 0))).nodes;
 }

@@ -6,8 +6,8 @@ use Rattle.dt_live.proofs.Keeping.{kept-same, kept-then}
 use Rattle.dt_overlay.proofs.PartSteps.{own-base_nodes}
 use Rattle.dt_overlay.proofs.part.merge_part.Goals as goal
 
-pub has_clash-requires-clause-base_nodes : goal.has_clash-requires-clause-base_nodes
-has_clash-requires-clause-base_nodes c =
+pub find_clash-requires-clause-base_nodes : goal.find_clash-requires-clause-base_nodes
+find_clash-requires-clause-base_nodes c =
     let e = c.in_ok-end.ensures in
     own-base_nodes c.args.patched.now.live c.define_nodes.new.live _ c.args.body c.in_ok-end.end c.define_nodes.new.base_nodes c.requires.top e.part.more e.base_nodes
 

@@ -9,12 +9,14 @@ use Rattle.dt_source.specs.TreeMeaning.Names.{symbols_name}
 use Rattle.dt_live.specs.declared.live_tree.LiveTree.{LiveTree}
 use Rattle.dt_live.specs.ByRow.{row_property}
 use Rattle.dt_live.specs.Flattened.{Lent, lists}
+use Rattle.dt_source.specs.TreeMeaning.Paths.{Path}
 use Rattle.dt_source.specs.OverlayMeaning.Fault.{Fault}
 use Rattle.dt_source.specs.OverlayMeaning.Shifted.{Fixup, Shifting, Site, Value, fixups_in, is_fixups, site, site_of, take_site, with_fixups}
 use Rattle.dt_overlay.specs.declared.fixup.error.OverlayError.{OverlayError}
 use Rattle.dt_source.specs.OverlayMeaning.Texts.{parts}
 use Rattle.dt_overlay.specs.declared.fixup.patched_overlay.PatchedOverlay.{PatchedOverlay}
 use Rattle.dt_overlay.specs.declared.fixup.reading.NamedSite.{NamedSite}
+use Rattle.dt_overlay.specs.declared.fixup.reason.SymbolFault.{SymbolFault}
 use Rattle.dt_overlay.specs.declared.fixup.texts.SiteText.{SiteText}
 use Rattle.dt_overlay.specs.Fixup.OverlayFault.{IsFault, Leaves}
 use Rattle.dt_overlay.specs.Fixup.PatchedOverlay.{properties_of}
@@ -35,6 +37,14 @@ IsSiteText text found = MatchOption found (site_of (parts 58 text) ≡ None) (λ
 -- the value of a symbol, nothing where there is none
 abbrev pub symbol_value : LiveTree Lent → List ℕ → List ℕ
 symbol_value base symbol = unwrap_or (value_in (lists base).properties (symbols_name ∷ []) symbol) []
+
+-- the path that is meant, or a reason where there is none
+abbrev pub IsPathOrFault : Option Path → Result (Bor (List ℕ)) SymbolFault → Type 0
+IsPathOrFault meant found = MatchResult found (λ path. meant ≡ Some (path_names path.now)) (λ fault. meant ≡ None)
+
+-- the phandle that is meant, or a reason where there is none
+abbrev pub IsPhandleOrFault : Option ℕ → Result ℕ SymbolFault → Type 0
+IsPhandleOrFault meant found = MatchResult found (λ phandle. meant ≡ Some phandle) (λ fault. meant ≡ None)
 
 -- ---- fixups
 -- a fixup that was read

@@ -1,8 +1,8 @@
 -- Single rows: the phandles met so far (Devicetree Specification v0.4, section 2.3.3), and values that a call writes.
-use Rattle.std.specs.Prelude.{◌≡◌, ◌==◌, ℕ, Bool, false, List, Result, if◌then◌else◌}
+use Rattle.std.specs.Prelude.{◌≡◌, ◌==◌, ℕ, Bool, false, List, Result, is_some, if◌then◌else◌}
 use Rattle.std.specs.Int.{to_be_bytes, w32}
 use Rattle.std.specs.Ordering.{nat_cmp}
-use Rattle.std.specs.BTreeSet.{BTreeSet, contains}
+use Rattle.std.specs.BTreeMap.{BTreeMap, get}
 use Rattle.dt_live.specs.ByRow.{row_property}
 use Rattle.dt_live.specs.Flattened.{lists}
 use Rattle.dt_source.specs.OverlayMeaning.Fault.{Fault}
@@ -13,8 +13,8 @@ use Rattle.dt_overlay.specs.Fixup.OverlayFault.{Leaves}
 use Rattle.dt_overlay.specs.Fixup.PatchedOverlay.{properties_of, value_at}
 
 -- the number was met
-abbrev pub is_met : BTreeSet ℕ → ℕ → Bool
-is_met met n = contains nat_cmp met n
+abbrev pub is_met : BTreeMap ℕ ℕ → ℕ → Bool
+is_met met n = is_some (get nat_cmp met n)
 
 -- all properties but n have the values that they had
 abbrev pub KeepsOthers : ℕ → PatchedOverlay → PatchedOverlay → Type 0

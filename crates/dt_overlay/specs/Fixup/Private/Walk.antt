@@ -1,5 +1,5 @@
 -- Calls as steps of the meaning (dt-object-internal, section 2).
-use Rattle.std.specs.Prelude.{◌≡◌, ◌+◌, ◌≤◌, ℕ, ◌&&◌, Bool, true, false, not, Option, Some, Result, Ok, MatchOption, MatchResult, List, [], ◌∷◌, codes, drop, length}
+use Rattle.std.specs.Prelude.{◌≡◌, ◌+◌, ◌≤◌, ℕ, ◌&&◌, Bool, true, false, not, Some, Result, Ok, MatchResult, List, [], ◌∷◌, codes, drop, length}
 use Rattle.std.specs.List.{filter}
 use Rattle.std.specs.Str.{bytes_eq}
 use Rattle.dt_tree.specs.Steps.{fold}
@@ -14,6 +14,7 @@ use Rattle.dt_source.specs.OverlayMeaning.Fault.{Fault}
 use Rattle.dt_source.specs.OverlayMeaning.Shifted.{Site, Shifting, Value, fits, is_local_fixup, raise_at, raise_sites, site, take_site}
 use Rattle.dt_overlay.specs.declared.fixup.error.OverlayError.{OverlayError}
 use Rattle.dt_overlay.specs.declared.fixup.patched_overlay.PatchedOverlay.{PatchedOverlay}
+use Rattle.dt_overlay.specs.declared.fixup.reason.EntryFault.{EntryFault}
 use Rattle.dt_overlay.specs.Fixup.OverlayFault.{IsFault}
 use Rattle.dt_overlay.specs.Fixup.PatchedOverlay.{properties_of, value_at}
 use Rattle.dt_overlay.specs.Fixup.Private.Steps.{IsAt}
@@ -38,11 +39,12 @@ property_step shift d k = fold (raise_sites shift) (filter is_local_fixup (row_p
 abbrev pub site_at : PatchedOverlay → ℕ → List ℕ → ℕ → Site
 site_at s node name offset = site (node_path s.live node) name offset
 
--- the row of the property of a site that may be written, none where it may not
-abbrev pub IsOpenRow : PatchedOverlay → ℕ → List ℕ → ℕ → Option ℕ → Type 0
+-- the row of the property of a site that may be written, or a reason where it may not
+abbrev pub IsOpenRow : PatchedOverlay → ℕ → List ℕ → ℕ → Result ℕ EntryFault → Type 0
 IsOpenRow s node name offset found =
-    MatchOption found (is_open (site_at s node name offset) (properties_of s) ≡ false)
+    MatchResult found
     (λ row. (is_open (site_at s node name offset) (properties_of s) ≡ true) × (property_of s.live node name ≡ Some row) × (offset + 4 ≤ length (value_at s row)))
+    (λ fault. is_open (site_at s node name offset) (properties_of s) ≡ false)
 
 -- what one site of a local fixup does, and all sites of one
 abbrev pub site_step : ℕ → PatchedOverlay → ℕ → List ℕ → ℕ → Shifting → Result Shifting Fault

@@ -12,7 +12,7 @@ returns-in_err-text c = search rules
 
 pub returns-in_err-tree : goal.returns-in_err-tree
 returns-in_err-tree c =
-    let e = c.in_err-tree.field-0.0 in
+    let e = c.in_err-tree.field-0.0.kind in
     let of_read = c.in_err-tree.ensures in
     record {
       answer = search rules;

@@ -16,7 +16,7 @@ returns-clause-held c =
 pub returns-in_err-base-clause-refused : goal.returns-in_err-base-clause-refused
 returns-in_err-base-clause-refused c =
     let base = c.args.base.now in
-    let e = c.in_err-base.field-0.0 in
+    let e = c.in_err-base.field-0.0.kind in
     let of_read = c.in_err-base.ensures in
     told e (IsOverlayRefusal base c.args.overlay.now) c.from_residual.result c.from_residual.ensures.1
     (inl (unread base e of_read.too_large (explained base e of_read.only of_read.too_large of_read.truncated of_read.bad_magic of_read.bad_version of_read.no_end)))
@@ -24,13 +24,13 @@ returns-in_err-base-clause-refused c =
 pub returns-in_err-overlay-clause-held : goal.returns-in_err-overlay-clause-held
 returns-in_err-overlay-clause-held c =
     λ b o base_held over_held.
-    matched c.in_err-overlay.field-0.0 (CannotApply b o) (λ blob. IsBlobOfApplied b o blob.items) c.from_residual-in_err-overlay.result c.from_residual-in_err-overlay.ensures.1
+    matched c.in_err-overlay.field-0.0.kind (CannotApply b o) (λ blob. IsBlobOfApplied b o blob.items) c.from_residual-in_err-overlay.result c.from_residual-in_err-overlay.ensures.1
     (inl (ap blob_fault (c.in_err-overlay.ensures.only o over_held)))
 
 pub returns-in_err-overlay-clause-refused : goal.returns-in_err-overlay-clause-refused
 returns-in_err-overlay-clause-refused c =
     let over = c.args.overlay.now in
-    let e = c.in_err-overlay.field-0.0 in
+    let e = c.in_err-overlay.field-0.0.kind in
     let of_read = c.in_err-overlay.ensures in
     told e (IsOverlayRefusal c.args.base.now over) c.from_residual-in_err-overlay.result c.from_residual-in_err-overlay.ensures.1
     (inr (inl (record {
@@ -48,8 +48,8 @@ pub returns-in_err-base-clause-header : goal.returns-in_err-base-clause-header
 returns-in_err-base-clause-header c =
     let r = c.in_err-base.ensures in
     λ e is.
-    header-told c.in_err-base.field-0.0 e c.from_residual.result
-    (header-error c.args.base.now (Err c.in_err-base.field-0.0) r.too_large r.truncated r.bad_magic r.bad_version r.bad_layout e is)
+    header-told c.in_err-base.field-0.0.kind e c.from_residual.result
+    (header-error c.args.base.now (Err c.in_err-base.field-0.0.kind) r.too_large r.truncated r.bad_magic r.bad_version r.bad_layout e is)
     c.from_residual.ensures.1
 
 pub returns-in_err-overlay-clause-header : goal.returns-in_err-overlay-clause-header
@@ -65,13 +65,13 @@ returns-clause-overlay_header c =
 pub returns-in_err-base-clause-overlay_header : goal.returns-in_err-base-clause-overlay_header
 returns-in_err-base-clause-overlay_header c =
     λ e over.
-    before-over c.in_err-base.field-0.0 e c.from_residual.result (c.in_err-base.ensures.only over.base_tree over.base_held) c.from_residual.ensures.1
+    before-over c.in_err-base.field-0.0.kind e c.from_residual.result (c.in_err-base.ensures.only over.base_tree over.base_held) c.from_residual.ensures.1
 
 pub returns-in_err-overlay-clause-overlay_header : goal.returns-in_err-overlay-clause-overlay_header
 returns-in_err-overlay-clause-overlay_header c =
     let r = c.in_err-overlay.ensures in
     λ e over.
     told-over e c.from_residual-in_err-overlay.result
-    (header-told c.in_err-overlay.field-0.0 e c.from_residual-in_err-overlay.result
-    (header-error c.args.overlay.now (Err c.in_err-overlay.field-0.0) r.too_large r.truncated r.bad_magic r.bad_version r.bad_layout e over.bad)
+    (header-told c.in_err-overlay.field-0.0.kind e c.from_residual-in_err-overlay.result
+    (header-error c.args.overlay.now (Err c.in_err-overlay.field-0.0.kind) r.too_large r.truncated r.bad_magic r.bad_version r.bad_layout e over.bad)
     c.from_residual-in_err-overlay.ensures.1)

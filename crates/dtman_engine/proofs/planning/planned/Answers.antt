@@ -9,8 +9,8 @@ pub returns-in_err-tree-clause-header : goal.returns-in_err-tree-clause-header
 returns-in_err-tree-clause-header c =
     let r = c.in_err-tree.ensures in
     λ e is.
-    header-told c.in_err-tree.field-0.0 e c.from_residual.result
-    (header-error c.args.blob.now (Err c.in_err-tree.field-0.0) r.too_large r.truncated r.bad_magic r.bad_version r.bad_layout e is)
+    header-told c.in_err-tree.field-0.0.kind e c.from_residual.result
+    (header-error c.args.blob.now (Err c.in_err-tree.field-0.0.kind) r.too_large r.truncated r.bad_magic r.bad_version r.bad_layout e is)
     c.from_residual.ensures.1
 
 pub returns-clause-header : goal.returns-clause-header

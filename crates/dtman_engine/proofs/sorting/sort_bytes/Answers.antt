@@ -26,13 +26,13 @@ returns-clause-header c =
 pub returns-in_err-tree-clause-held : goal.returns-in_err-tree-clause-held
 returns-in_err-tree-clause-held c =
     λ t held.
-    matched c.in_err-tree.field-0.0 (CannotSort t) (λ sorted. IsSortedBlob t sorted.items) c.from_residual.result c.from_residual.ensures.1
+    matched c.in_err-tree.field-0.0.kind (CannotSort t) (λ sorted. IsSortedBlob t sorted.items) c.from_residual.result c.from_residual.ensures.1
     (inl (ap blob_fault (c.in_err-tree.ensures.only t held)))
 
 pub returns-in_err-tree-clause-refused : goal.returns-in_err-tree-clause-refused
 returns-in_err-tree-clause-refused c =
     let blob = c.args.blob.now in
-    let e = c.in_err-tree.field-0.0 in
+    let e = c.in_err-tree.field-0.0.kind in
     let of_read = c.in_err-tree.ensures in
     told e (IsSortRefusal blob) c.from_residual.result c.from_residual.ensures.1
     (inl (unread blob e of_read.too_large (explained blob e of_read.only of_read.too_large of_read.truncated of_read.bad_magic of_read.bad_version of_read.no_end)))
@@ -41,6 +41,6 @@ pub returns-in_err-tree-clause-header : goal.returns-in_err-tree-clause-header
 returns-in_err-tree-clause-header c =
     let r = c.in_err-tree.ensures in
     λ e is.
-    header-told c.in_err-tree.field-0.0 e c.from_residual.result
-    (header-error c.args.blob.now (Err c.in_err-tree.field-0.0) r.too_large r.truncated r.bad_magic r.bad_version r.bad_layout e is)
+    header-told c.in_err-tree.field-0.0.kind e c.from_residual.result
+    (header-error c.args.blob.now (Err c.in_err-tree.field-0.0.kind) r.too_large r.truncated r.bad_magic r.bad_version r.bad_layout e is)
     c.from_residual.ensures.1

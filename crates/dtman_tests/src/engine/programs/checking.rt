@@ -1,6 +1,6 @@
 //! The mistakes that `check` tells, by its options: which they are, dtc 1.6.1 says of the same source.
 
-use super::runs::{Files, Row, rows_end};
+use crate::runs::{Files, Row, rows_end};
 
 const FILES: Files = &[
     (

@@ -1,6 +1,6 @@
 //! `compile` over files in memory: what stands in OUT, and when it is opened at all.
 
-use super::runs::{Files, Writing, rows_write};
+use crate::runs::{Files, Writing, rows_write};
 
 const FILES: Files = &[
     ("board.dts", b"/dts-v1/; / { };"),

@@ -1,7 +1,7 @@
 //! `compile --dtc` over files in memory: what stands in OUT, and what is told of sources that dtc doesn't take, either.
 
 use super::compiling::BLOB;
-use super::runs::{Files, Writing, rows_write};
+use crate::runs::{Files, Writing, rows_write};
 use dt_text::include::{Found, Incomplete, Shortfall};
 use dtman_cli::{Outcome, compile_dtc, in_user_file, shortfall_fault};
 use dtman_engine::{DtcOptions, Fault, Position};

@@ -1,7 +1,7 @@
 //! The pages of `--help`.
 
-use super::runs::run_over;
-use super::shelf::Shelf;
+use crate::runs::run_over;
+use crate::shelf::Shelf;
 use std::hash::RandomState;
 use std::process::Abort;
 use std::thread::Threads;

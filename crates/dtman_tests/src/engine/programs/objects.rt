@@ -1,7 +1,7 @@
 //! Refusals of each command as objects of JSON.
 
-use super::runs::{Files, Row, ends, rows_end, run_over};
-use super::shelf::Shelf;
+use crate::runs::{Files, Row, ends, rows_end, run_over};
+use crate::shelf::Shelf;
 use std::hash::RandomState;
 use std::io;
 use std::process::Abort;

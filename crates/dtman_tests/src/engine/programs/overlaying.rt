@@ -1,7 +1,7 @@
 //! `overlay` over files in memory: what stands in OUT, and when it is opened at all.
 
 use super::compiling::BLOB as BASE;
-use super::runs::{Files, Writing, row_writes, rows_write};
+use crate::runs::{Files, Writing, row_writes, rows_write};
 use dtman_engine::compile_bytes;
 use std::alloc::Global;
 use std::hash::RandomState;

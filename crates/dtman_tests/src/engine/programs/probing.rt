@@ -1,7 +1,7 @@
 //! `plan` and `probe` over files in memory.
 
 use super::clock_and_uart::BLOB;
-use super::runs::{Files, Row, rows_end};
+use crate::runs::{Files, Row, rows_end};
 
 const FILES: Files = &[
     ("board.dtb", BLOB),

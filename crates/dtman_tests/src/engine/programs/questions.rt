@@ -1,7 +1,7 @@
 //! `why`, `needs`, `drivers`, `trace` and `probe --without` over files in memory.
 
 use super::clock_and_uart::{BLOB, DANGLING};
-use super::runs::{Files, Row, rows_end};
+use crate::runs::{Files, Row, rows_end};
 
 const FILES: Files = &[
     ("board.dtb", BLOB),

@@ -1,6 +1,6 @@
 //! `replay` over files in memory, with drivers that come late.
 
-use super::runs::{Files, Row, rows_end};
+use crate::runs::{Files, Row, rows_end};
 
 const FILES: Files = &[
     (

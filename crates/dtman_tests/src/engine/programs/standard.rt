@@ -2,8 +2,8 @@
 
 use super::clock_and_uart::BLOB as BOARD;
 use super::compiling::BLOB;
-use super::runs::{Files, ends, run_over};
-use super::shelf::{Errors, Shelf};
+use crate::runs::{Files, ends, run_over};
+use crate::shelf::{Errors, Shelf};
 use dtman_cli::run_words;
 use dtman_engine::{Failed, Memory};
 use std::hash::RandomState;

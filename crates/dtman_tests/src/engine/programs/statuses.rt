@@ -1,8 +1,8 @@
 //! The exit statuses, and what goes where.
 ghost use Rattle.std.specs.Prelude.{◌<◌};
 
-use super::runs::{Files, Row, ends, rows_end, run_over};
-use super::shelf::Shelf;
+use crate::runs::{Files, Row, ends, rows_end, run_over};
+use crate::shelf::Shelf;
 use std::hash::RandomState;
 use std::process::Abort;
 use std::thread::Threads;

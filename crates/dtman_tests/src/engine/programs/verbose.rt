@@ -1,8 +1,8 @@
 //! Refusals in detail: the lines behind the first.
 
-use super::runs::{Files, Row, ends, rows_end, run_over};
-use super::shelf::Shelf;
 use crate::engine::compiling::compiled;
+use crate::runs::{Files, Row, ends, rows_end, run_over};
+use crate::shelf::Shelf;
 use dtman_diagnosis::example_of;
 use std::hash::RandomState;
 use std::io;

@@ -2,7 +2,7 @@ use Rattle.std.proofs.Common.{◌≡◌, sym, subst, ap, ◌∙◌, arith}
 use Rattle.atomic_table.specs.Table.{Me}
 use Rattle.bus_core.specs.History.{IsBusHistory}
 use Rattle.bus_board.proofs.Allowed.{note_allowed}
-use Rattle.bus_board.proofs.Seats.{join_allowed, joined_told}
+use Rattle.bus_board.proofs.SeatsInTurn.{join_allowed, joined_told}
 use Rattle.bus_board.specs.Learns.{JoinedBy}
 use Rattle.bus_board.specs.Outcomes.{IsFront}
 use Rattle.bus_board.specs.Shown.{Posted, Seated}

@@ -1,5 +1,5 @@
 use Rattle.std.proofs.Common.{sym, ap, ◌∙◌, arith}
-use Rattle.bus_board.proofs.Seats.{split_allowed}
+use Rattle.bus_board.proofs.SeatsInTurn.{split_allowed}
 use Rattle.bus_board.specs.Shown.{Posted, Seated}
 use Rattle.bus_board.proofs.board.Board.seat.Goals as goal
 

@@ -53,7 +53,7 @@ edit-returns-in-Node-clause-step t c x at =
     let p = node_path c.args.live.now c.args.node in
     let name = c.in-Node.name.now in
     let same : after_entry (view c.args.statement.now) p x ≡ after_entry (child_entry c.as_slice.result.now name c.as_slice-in-Node.result.now) p x =
-    ap (λ s. after_entry (view s) p x) c.in-Node.is ∙ ap (λ s. after_entry s p x) (view-child c.in-Node.at c.in-Node.omit_if_no_ref c.in-Node.labels c.in-Node.name c.in-Node.body)
+    ap (λ s. after_entry (view s) p x) c.in-Node.is ∙ ap (λ s. after_entry s p x) (view-child c.in-Node.omit_if_no_ref c.in-Node.at c.in-Node.labels c.in-Node.name c.in-Node.body)
     ∙ ap₂ (λ ls ss. after_entry (Child false ls name (views ss)) p x) (sym c.as_slice.ensures) (sym c.as_slice-in-Node.ensures.value) in
     subst (λ (r : Result At Fault). MatchResult c.edit_child.result (λ _. (y : At) × (r ≡ Ok y) × IsAt y c.edit_child.new.live c.args.node c.args.stamp c.args.made.now.count) (λ e. IsFault e.kind r)) (sym {A = Result At Fault} same)
     (c.edit_child.ensures.step x at)

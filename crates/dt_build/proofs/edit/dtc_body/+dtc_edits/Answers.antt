@@ -20,7 +20,7 @@ edit_dtc-returns-in-Node-clause-step t c =
     let omitted = c.in-Node.omit_if_no_ref in
     let name = c.in-Node.name.now in
     let same : dtc_entry (view c.args.statement.now) first p s ≡ dtc_entry (dtc_child omitted c.as_slice.result.now name c.as_slice-in-Node.result.now) first p s =
-    ap (λ x. dtc_entry (view x) first p s) c.in-Node.is ∙ ap (λ x. dtc_entry x first p s) (view-child c.in-Node.at omitted c.in-Node.labels c.in-Node.name c.in-Node.body)
+    ap (λ x. dtc_entry (view x) first p s) c.in-Node.is ∙ ap (λ x. dtc_entry x first p s) (view-child omitted c.in-Node.at c.in-Node.labels c.in-Node.name c.in-Node.body)
     ∙ ap₂ (λ ls ss. dtc_entry (Child omitted ls name (views ss)) first p s) (sym c.as_slice.ensures) (sym c.as_slice-in-Node.ensures.value) in
     subst (λ (r : Result DtcTree Fault). Gives r (λ _. placed_of c.edit_dtc_child.new.placed) c.edit_dtc_child.result) (sym {A = Result DtcTree Fault} same) c.edit_dtc_child.ensures.step
 

@@ -8,5 +8,5 @@ use Rattle.dt_check.proofs.placed.Placed.may_have.Goals as goal
 pub returns : goal.returns
 returns c = λ e name same.
     ap (λ (p : PlacedData). has p.node.properties name) (sym c.self.view_is)
-    ∙ unmarked c.self.inside.node.now.properties c.self.inside.marks.classes name c.self.invariant.2
+    ∙ unmarked c.self.inside.node.now.properties c.self.inside.marks.classes name c.self.invariant.1
     (ap (λ n. slice_index_or c.self.inside.marks.classes n false) same ∙ sym c.may_have.ensures ∙ e)

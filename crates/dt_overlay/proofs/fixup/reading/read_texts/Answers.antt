@@ -7,6 +7,8 @@ use Rattle.dt_tree.specs.Steps.{then_do, each}
 use Rattle.dt_source.specs.OverlayMeaning.Shifted.{Fixup, fixup_in, site}
 use Rattle.dt_source.specs.OverlayMeaning.Texts.{parts}
 use Rattle.dt_overlay.specs.declared.fixup.error.OverlayError.TheVariants.{BadFixup}
+use Rattle.dt_overlay.specs.declared.fixup.place.FixupEntry.TheVariants.{Text}
+use Rattle.dt_overlay.specs.declared.fixup.reason.EntryFault.TheVariants.{NoSite}
 use Rattle.dt_overlay.specs.Fixup.Private.Fixing.{fixup_named}
 use Rattle.dt_overlay.proofs.FixupLemmas.ReadingLaws.{so-far-end, so-far-fault, so-far-more, text-none, text-site, texts-end, texts-more}
 use Rattle.dt_overlay.proofs.fixup.reading.read_texts.Goals as goal
@@ -18,7 +20,7 @@ returns-in_default c =
     let f = fixup_in c.args.symbol.now in
     let all = parts 0 c.args.texts.now in
     let i = length c.loop-text.yielded in
-    so-far-fault BadFixup (each f all) (each f (drop i all)) (then_do (f c.in-Some.text.now) (λ a. Ok (a ∷ []))) (each f (drop (i + 1) all))
+    so-far-fault (BadFixup (Text (record { property = c.args.property; byte = c.loop-text.byte })) NoSite) (each f all) (each f (drop i all)) (then_do (f c.in-Some.text.now) (λ a. Ok (a ∷ []))) (each f (drop (i + 1) all))
     (map fixup_named c.args.found.now.items) (map fixup_named c.loop-text.found.items) c.loop-text.invariant (texts-more f all i c.in-Some.text.now turn)
     (ap (λ r. then_do r (λ a. Ok (a ∷ []))) (text-none c.args.symbol.now c.in-Some.text.now c.in_default.ensures))
 

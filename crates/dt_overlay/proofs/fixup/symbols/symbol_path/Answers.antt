@@ -1,7 +1,4 @@
-use Rattle.std.proofs.Common.{◌≡◌, ◌∙◌, ◌<◌, Some, None, Option, List, length, sym, ap, subst, rules}
-use Rattle.std.specs.Prelude.{MatchOption}
-use Rattle.dt_tree.specs.Path.{path_names}
-use Rattle.dt_source.specs.TreeMeaning.Paths.{Path}
+use Rattle.std.proofs.Common.{◌≡◌, ◌∙◌, ◌<◌, Some, None, List, length, sym, ap, subst, rules}
 use Rattle.dt_source.specs.TreeMeaning.Names.{symbols_name}
 use Rattle.dt_live.specs.declared.live_tree.PropertyRow.{PropertyRow}
 use Rattle.dt_live.specs.Rows.{child_of, property_at, property_of}
@@ -34,11 +31,20 @@ row_value-value-requires c =
     let within = (row-there d c.requires c.in-Some.symbols c.args.symbol.now c.in-Some-property.row found).0 in
     subst (λ (ps : List (PropertyRow Lent)). c.in-Some-property.row < length ps) (sym c.properties.ensures) within
 
-pub returns : goal.returns
-returns c =
+pub returns-in-Some-ended_path : goal.returns-in-Some-ended_path
+returns-in-Some-ended_path c =
     let d = c.args.base.now in
     let text : c.as_slice.result.now ≡ symbols_name = search rules in
     let child : child_of d 0 symbols_name ≡ Some c.in-Some.symbols = ap (child_of d 0) (sym text) ∙ sym c.child.ensures ∙ c.in-Some.is in
     let found : property_of d c.in-Some.symbols c.args.symbol.now ≡ Some c.in-Some-property.row = sym c.property.ensures ∙ c.in-Some-property.is in
-    let same = symbol-text d c.requires c.args.symbol.now c.in-Some.symbols c.in-Some-property.row child found ∙ ap ended_path (ap (λ ps. lent (property_at ps c.in-Some-property.row).value) (sym c.properties.ensures) ∙ sym c.row_value-value.ensures) in
-    subst (λ (w : Option Path). MatchOption c.ended_path.result (w ≡ None) (λ path. w ≡ Some (path_names path.now))) (sym same) c.ended_path.ensures.path
+    symbol-text d c.requires c.args.symbol.now c.in-Some.symbols c.in-Some-property.row child found ∙ ap ended_path (ap (λ ps. lent (property_at ps c.in-Some-property.row).value) (sym c.properties.ensures) ∙ sym c.row_value-value.ensures)
+    ∙ c.in-Some-ended_path.ensures.path
+
+pub returns-in-None : goal.returns-in-None
+returns-in-None c =
+    let d = c.args.base.now in
+    let text : c.as_slice.result.now ≡ symbols_name = search rules in
+    let child : child_of d 0 symbols_name ≡ Some c.in-Some.symbols = ap (child_of d 0) (sym text) ∙ sym c.child.ensures ∙ c.in-Some.is in
+    let found : property_of d c.in-Some.symbols c.args.symbol.now ≡ Some c.in-Some-property.row = sym c.property.ensures ∙ c.in-Some-property.is in
+    symbol-text d c.requires c.args.symbol.now c.in-Some.symbols c.in-Some-property.row child found ∙ ap ended_path (ap (λ ps. lent (property_at ps c.in-Some-property.row).value) (sym c.properties.ensures) ∙ sym c.row_value-value.ensures)
+    ∙ c.in-None.ensures.path

@@ -12,7 +12,7 @@ use Rattle.dt_overlay.proofs.fixup.taken_sites.take_named_sites.Goals as goal
 
 -- the fixup that the code has where there is none
 abbrev plain : NamedSite
-plain = record { symbol = record { ref_ptr = (0, 0); now = [] }; site = record { path = record { ref_ptr = (0, 0); now = [] }; name = record { ref_ptr = (0, 0); now = [] }; offset = 0 } }
+plain = record { symbol = record { ref_ptr = (0, 0); now = [] }; site = record { path = record { ref_ptr = (0, 0); now = [] }; name = record { ref_ptr = (0, 0); now = [] }; offset = 0 }; entry = record { property = 0; byte = 0 } }
 
 pub returns-in-Err-clause-step : goal.returns-in-Err-clause-step
 returns-in-Err-clause-step c =

@@ -13,10 +13,10 @@ use Rattle.dt_overlay.proofs.fixup.writing.write_sites.Goals as goal
 
 -- the place that the code has where there is none
 abbrev blank : TakenSite
-blank = record { symbol = record { ref_ptr = (0, 0); now = [] }; row = 0; offset = 0 }
+blank = record { symbol = record { ref_ptr = (0, 0); now = [] }; row = 0; offset = 0; entry = record { property = 0; byte = 0 } }
 
-pub returns-in_default-clause-written : goal.returns-in_default-clause-written
-returns-in_default-clause-written c =
+pub returns-in-Err-clause-written : goal.returns-in-Err-clause-written
+returns-in-Err-clause-written c =
     let base = lists c.args.base.now in
     let d = c.args.patched.now.live in
     let all = c.args.sites.now in
@@ -25,7 +25,7 @@ returns-in_default-clause-written c =
     let o : TakenSite = get_or all i blank in
     let es = (patched_lists c.loop-site.patched).properties in
     c.loop-site.invariant.written ∙ writes-more base d all i o below (get_or_default all i blank o below) es
-    ∙ ap (λ r. then_do r (writes base (map (fixup_taken d) (drop (i + 1) all)))) (resolve-none base (fixup_taken d o) es (sym c.in_default.ensures))
+    ∙ ap (λ r. then_do r (writes base (map (fixup_taken d) (drop (i + 1) all)))) (resolve-none base (fixup_taken d o) es c.in-Err.ensures)
 
 pub write_site-requires-clause-inside : goal.write_site-requires-clause-inside
 write_site-requires-clause-inside c =
@@ -44,16 +44,16 @@ loop-site-preserved c =
     let below : i < length all = c.loop-site-test.true in
     let o : TakenSite = get_or all i blank in
     let es = (patched_lists c.loop-site.patched).properties in
-    let bytes = to_be_bytes w32 c.in-Some.phandle in
+    let bytes = to_be_bytes w32 c.in-Ok.phandle in
     let rest = map (fixup_taken d) (drop (i + 1) all) in
     record {
       sound = c.in_ok-write_site.ensures.sound;
       live = c.in_ok-write_site.ensures.live ∙ c.loop-site.invariant.live;
       lengths = λ k. c.in_ok-write_site.ensures.lengths k ∙ c.loop-site.invariant.lengths k;
-      last = sym c.in-Some.ensures;
+      last = c.in-Ok.ensures;
       written =
           c.loop-site.invariant.written ∙ writes-more base d all i o below (get_or_default all i blank o below) es
-          ∙ ap (λ r. then_do r (writes base rest)) (resolve-some base (fixup_taken d o) es c.in-Some.phandle (sym c.in-Some.ensures))
+          ∙ ap (λ r. then_do r (writes base rest)) (resolve-some base (fixup_taken d o) es c.in-Ok.phandle c.in-Ok.ensures)
           ∙ ap (writes base rest) (ap (λ (e : LiveTree Lent). write_at (fixup_taken e o).at bytes es) (sym c.loop-site.invariant.live) ∙ sym c.in_ok-write_site.ensures.written);
     }
 

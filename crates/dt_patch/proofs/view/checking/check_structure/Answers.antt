@@ -14,7 +14,7 @@ pub returns-in_err-next : goal.returns-in_err-next
 returns-in_err-next c =
     let p = err_from_is_err_and c.from_residual.result c.from_residual.ensures.1 in
     let strings = c.args.strings.now in
-    rw (p.1, p.2) (goes_fail c.args.is_sized strings c.tokens.rest.now c.tokens.stage _ c.in_err-next.ensures.none c.tokens.invariant, structure_fault c.in_err-next.field-0.0 (token_at strings c.tokens.rest.now) c.in_err-next.ensures.gives)
+    rw (p.1, p.2) (goes_fail c.args.is_sized strings c.tokens.rest.now c.tokens.stage _ c.in_err-next.ensures.none c.tokens.invariant, structure_fault c.in_err-next.field-0.0.kind (token_at strings c.tokens.rest.now) c.in_err-next.ensures.gives)
 
 pub returns-then-is_end : goal.returns-then-is_end
 returns-then-is_end c =

@@ -12,9 +12,9 @@ use Rattle.std.proofs.Crossing as heap
 use Rattle.std_alloc.proofs.SendSync.{quiet, lies}
 use Rattle.std_heap.proofs.Global.TheSendSync as handle
 use Rattle.bus_board.specs.Seats.Held.{held_owns}
-use Rattle.bus_board.specs.Seats.contracts.placed_seat.Slot as Slot
+use Rattle.bus_board.specs.contracts.seats.placed_seat.Slot as Slot
 use Rattle.bus_board.proofs.seats.placed_seat.Slot.TheSendSync.{the_send as slot}
-use Rattle.bus_board.specs.Seats.contracts.held.Held.{the_row, the_type}
+use Rattle.bus_board.specs.contracts.seats.held.Held.{the_row, the_type}
 
 keyless : (alloc : Global) (at : Ptr) (value : Option Slot.the_row.Denot) → Keyless (held_owns alloc at value)
 keyless alloc at None = tt

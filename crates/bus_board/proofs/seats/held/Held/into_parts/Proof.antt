@@ -26,9 +26,9 @@ use denote.Triple.Walked.{says, Stays, stay_dropped, walk_of, ends_at, Goes-drop
 use Rattle.std_alloc.proofs.BoxSteps.Form.{D, B, word, box_typed}
 use Rattle.std_alloc.proofs.BoxSteps.Steps.{box_out, box_in}
 use Rattle.bus_board.proofs.SeatsLemmas.AsBox.{E, FromHeld as From, some_of}
-use Rattle.bus_board.specs.Seats.contracts.held.Held as Held
-use Rattle.bus_board.specs.Seats.contracts.held.Held.into_parts as F
-use Rattle.bus_board.specs.Seats.contracts.held.Held.into_parts.Key.{name as #self}
+use Rattle.bus_board.specs.contracts.seats.held.Held as Held
+use Rattle.bus_board.specs.contracts.seats.held.Held.into_parts as F
+use Rattle.bus_board.specs.contracts.seats.held.Held.into_parts.Key.{name as #self}
 use Rattle.bus_board.proofs.seats.held.Held.into_parts.Statement as stated
 use Rattle.bus_board.proofs.seats.held.Held.into_parts.Code as code
 

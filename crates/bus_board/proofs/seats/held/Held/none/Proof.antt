@@ -34,8 +34,8 @@ use Rattle.core.proofs.alloc.Calls.{handle_tells}
 use Rattle.std_alloc.proofs.BoxSteps.Form.{P, owning}
 use Rattle.std_alloc.proofs.ResultValues.{and_tt}
 use Rattle.bus_board.proofs.SeatsLemmas.AsBox.{E, FromGlobal as From}
-use Rattle.bus_board.specs.Seats.contracts.held.Held.none as F
-use Rattle.bus_board.specs.Seats.contracts.held.Held.none.Key.{name as #self}
+use Rattle.bus_board.specs.contracts.seats.held.Held.none as F
+use Rattle.bus_board.specs.contracts.seats.held.Held.none.Key.{name as #self}
 use Rattle.bus_board.proofs.seats.held.Held.none.Statement as stated
 use Rattle.bus_board.proofs.seats.held.Held.none.Code as code
 

@@ -35,12 +35,12 @@ use Rattle.core.proofs.alloc.Calls.{token, Goes-blank}
 use Rattle.std_alloc.specs.Box.Ownership.{box_owns}
 use Rattle.std_alloc.proofs.BoxSteps.Form.{Bx, D, R, P, B, args, box_ty, word, box_typed}
 use Rattle.std_alloc.proofs.BoxSteps.Steps.{box_out, box_in}
-use Rattle.bus_board.specs.Seats.contracts.parts.Parts as parts
+use Rattle.bus_board.specs.contracts.seats.parts.Parts as parts
 use Rattle.std_alloc.specs.contracts.boxed.Box.from_raw as Fr
 use Rattle.std_alloc.proofs.boxed.Box.from_raw.Symbol as raw_sym
 use Rattle.std_alloc.proofs.boxed.Box.from_raw.Met as raw_met
-use Rattle.bus_board.specs.Seats.contracts.parts.Parts.into_box as F
-use Rattle.bus_board.specs.Seats.contracts.parts.Parts.into_box.Key.{name as #self}
+use Rattle.bus_board.specs.contracts.seats.parts.Parts.into_box as F
+use Rattle.bus_board.specs.contracts.seats.parts.Parts.into_box.Key.{name as #self}
 use Rattle.bus_board.proofs.seats.parts.Parts.into_box.Statement as stated
 use Rattle.bus_board.proofs.seats.parts.Parts.into_box.Code as code
 

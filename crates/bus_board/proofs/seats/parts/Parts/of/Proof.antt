@@ -37,12 +37,12 @@ use Rattle.core.proofs.alloc.Calls.{token, handle_tells, Goes-blank}
 use Rattle.std_alloc.specs.Box.Ownership.{box_owns}
 use Rattle.std_alloc.proofs.BoxSteps.Form.{Bx, D, τ, R, P, B, word, box_typed}
 use Rattle.std_alloc.proofs.BoxSteps.Steps.{box_out, box_in}
-use Rattle.bus_board.specs.Seats.contracts.parts.Parts as parts
+use Rattle.bus_board.specs.contracts.seats.parts.Parts as parts
 use Rattle.std_alloc.specs.contracts.boxed.Box.into_raw_with_allocator as Ra
 use Rattle.std_alloc.proofs.boxed.Box.into_raw_with_allocator.Symbol as raw_sym
 use Rattle.std_alloc.proofs.boxed.Box.into_raw_with_allocator.Met as raw_met
-use Rattle.bus_board.specs.Seats.contracts.parts.Parts.of as F
-use Rattle.bus_board.specs.Seats.contracts.parts.Parts.of.Key.{name as #self}
+use Rattle.bus_board.specs.contracts.seats.parts.Parts.of as F
+use Rattle.bus_board.specs.contracts.seats.parts.Parts.of.Key.{name as #self}
 use Rattle.bus_board.proofs.seats.parts.Parts.of.Statement as stated
 use Rattle.bus_board.proofs.seats.parts.Parts.of.Code as code
 
