@@ -161,7 +161,8 @@ impl<'l, 't> Linker<'l, 't> {
         warnings: &mut Vec<Warning<'t>>,
         places: &[usize],
     ) -> Result<Vec<DeviceLinks<'t>>, AllocError>
-        ensures links { IfOk result (λ links. links.items ≡ links_from self.now.nodes.now self.now.devices.now self.now.buses.now
+        ensures links { IfOk result (λ links. links.items
+            ≡ links_from self.now.nodes.now self.now.devices.now self.now.buses.now
             (is_strict self.now.strictness) places.now 0 self.now.devices.now) }
         ensures warnings { OnOk result (warnings.new.items ≡ warnings.old.items
             ++ warnings_from self.now.nodes.now (is_strict self.now.strictness) places.now 0 self.now.devices.now) }

@@ -38,7 +38,8 @@ fn plan_by(
     counting: &Counting<'_>,
 ) -> Result<Plan, AllocError>
     requires { IsLawful (planned_by matcher.now (passes early.now counting.now) links.now 0 devices.now) }
-    ensures { IfOk result (λ plan. plan ≡ planned_by matcher.now (passes early.now counting.now) links.now 0 devices.now) }
+    ensures { IfOk result (λ plan. plan ≡ planned_by matcher.now
+        (passes early.now counting.now) links.now 0 devices.now) }
 {
     let devices = planned_devices(alloc, hasher, matcher, devices, links, early, counting)?;
     Plan::of(alloc, hasher, devices)
@@ -54,7 +55,8 @@ fn components_by(
     early: &[bool],
 ) -> Result<Vec<usize>, AllocError>
     requires { IsLawful (planned_by matcher.now (is_counted early.now) links.now 0 devices.now) }
-    ensures { IfOk result (λ components. AreComponents (planned_by matcher.now (is_counted early.now) links.now 0 devices.now) components.items) }
+    ensures { IfOk result (λ components. AreComponents
+        (planned_by matcher.now (is_counted early.now) links.now 0 devices.now) components.items) }
 {
     let counting = Counting::All;
     let whole = plan_by(alloc, hasher, matcher, devices, links, early, &counting)?;
@@ -91,7 +93,8 @@ fn relaxed_plan(
     requires { (test : LinkData → Bool) → IsLawful (planned_by matcher.now test links.now 0 devices.now) }
     ensures plan { IfOk result (λ made. made.0
         ≡ planned_by matcher.now (is_waited_for early.now made.1.items) links.now 0 devices.now) }
-    ensures cycles { IfOk result (λ made. AreComponents (planned_by matcher.now (is_counted early.now) links.now 0 devices.now) made.1.items) }
+    ensures cycles { IfOk result (λ made. AreComponents
+        (planned_by matcher.now (is_counted early.now) links.now 0 devices.now) made.1.items) }
 {
     let components = components_by(alloc, hasher, matcher, devices, links, early)?;
     let by = components.as_slice();
@@ -115,7 +118,8 @@ fn add_all_links<'l, 't>(
     strictness: Strictness,
     warnings: &mut Vec<Warning<'t>>,
 ) -> Result<Vec<DeviceLinks<'t>>, AllocError>
-    ensures links { IfOk result (λ links. links.items ≡ links_from nodes.now devices.now (flags drivers.now.buses devices.now)
+    ensures links { IfOk result (λ links. links.items
+        ≡ links_from nodes.now devices.now (flags drivers.now.buses devices.now)
         (is_strict strictness) (device_places nodes.now) 0 devices.now) }
     ensures warnings { OnOk result (warnings.new.items ≡ warnings.old.items
         ++ warnings_from nodes.now (is_strict strictness) (device_places nodes.now) 0 devices.now) }
@@ -140,8 +144,10 @@ fn parts_of<'t>(
     strictness: Strictness,
 ) -> Result<Parts<'t>, AllocError>
     requires { devices.now ≡ tree_devices tree.now.root }
-    ensures links { IfOk result (λ parts. parts.links.items ≡ tree_links tree.now.root drivers.now (is_strict strictness)) }
-    ensures warnings { IfOk result (λ parts. parts.warnings.items ≡ tree_warnings tree.now.root (is_strict strictness)) }
+    ensures links { IfOk result (λ parts. parts.links.items ≡ tree_links tree.now.root drivers.now
+        (is_strict strictness)) }
+    ensures warnings { IfOk result (λ parts. parts.warnings.items
+        ≡ tree_warnings tree.now.root (is_strict strictness)) }
     ensures early { IfOk result (λ parts. parts.early.items ≡ flags drivers.now.early (tree_devices tree.now.root)) }
 {
     let nodes = Nodes::of(alloc, hasher, tree)?;

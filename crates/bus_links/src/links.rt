@@ -26,7 +26,13 @@ impl<'t> Model for Link<'t> {
 impl<'t> Link<'t> {
     /// That which an entry of a property makes.
     pub fn new(consumer: Device, supplier: Device, property: &'t [u8], entry: usize) -> Self
-        ensures { result ≡ record { consumer = consumer; supplier = supplier; property = property.now; entry = entry; is_bus = false } }
+        ensures { result ≡ record {
+          consumer = consumer;
+          supplier = supplier;
+          property = property.now;
+          entry = entry;
+          is_bus = false;
+        } }
     {
         Self {
             consumer,

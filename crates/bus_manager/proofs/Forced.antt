@@ -5,7 +5,7 @@ use Rattle.bus_plan.specs.Plan.{PlannedDevice, is_matched}
 use Rattle.bus_core.specs.declared.event.Ticket.{Ticket}
 use Rattle.bus_core.specs.declared.settle.Settle.{Settle}
 use Rattle.bus_core.specs.CoreState.{was_begun}
-use Rattle.bus_core.specs.Due.{is_due, is_idle}
+use Rattle.bus_core.specs.Due.{is_idle}
 use Rattle.bus_core.specs.History.{IsBusHistory, bound_in}
 use Rattle.bus_core.specs.Least.{IsLeast}
 use Rattle.bus_core.specs.Ready.{is_ready}

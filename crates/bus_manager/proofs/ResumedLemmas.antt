@@ -1,5 +1,5 @@
 -- A core's flights end, and a run goes on from what had settled.
-use Rattle.std.proofs.Common.{◌≡◌, inl, inr, ℕ, suc, ◌+◌, ◌<◌, ◌≤◌, Bool, true, false, not, List, [], ◌∷◌, Option, Some, None, length, cond, set, get_or, refl, sym, ap, ◌∙◌, arith}
+use Rattle.std.proofs.Common.{◌≡◌, inl, inr, ℕ, suc, ◌+◌, ◌<◌, ◌≤◌, Bool, true, false, not, List, [], ◌∷◌, Option, Some, None, length, cond, get_or, refl, sym, ap, ◌∙◌, arith}
 use Rattle.std.specs.Prelude.{is_some, Result, Ok, Err, IfOk}
 use Rattle.std.specs.List.{list_any}
 use Rattle.std.proofs.lemmas.Bool.{cases_eq, or_from}
@@ -7,7 +7,6 @@ use Rattle.bus_plan.specs.Plan.{PlannedDevice, is_available, is_matched}
 use Rattle.bus_core.specs.declared.event.Report.{Report}
 use Rattle.bus_core.specs.declared.refusal.Refusal.{Refusal}
 use Rattle.bus_core.specs.declared.refusal.Refusal.TheVariants as refusal
-use Rattle.bus_core.specs.declared.settle.Settle.{Settle}
 use Rattle.bus_core.specs.CoreState.{CoreValue, CoreState, Flight, is_in_flight}
 use Rattle.bus_core.specs.declared.status.Status.TheVariants as status
 use Rattle.bus_core.specs.Due.{is_due}

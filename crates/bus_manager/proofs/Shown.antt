@@ -1,16 +1,14 @@
 -- What a note shows of its device.
-use Rattle.std.proofs.Common.{◌≡◌, inl, inr, ℕ, Bool, true, false, not, ◌&&◌, List, eqb, cond, refl, sym, ap, ◌∙◌, subst, true≢false, eq-eqb, eqb-true}
+use Rattle.std.proofs.Common.{◌≡◌, inl, inr, ℕ, Bool, true, false, not, ◌&&◌, List, eqb, cond, refl, sym, ap, ◌∙◌, true≢false, eq-eqb, eqb-true}
 use Rattle.std.specs.List.{list_all}
-use Rattle.std.proofs.lemmas.Bool.{and_parts, and_from, cases_eq, cases_Bool}
+use Rattle.std.proofs.lemmas.Bool.{and_parts, and_from, cases_Bool}
 use mathlib.Core.Path.{fun_ext}
-use Rattle.bus_plan.specs.Plan.{PlannedDevice, is_matched, is_available, suppliers_of, verdict_of}
-use Rattle.bus_plan.specs.declared.verdict.Verdict.TheVariants.{Binds}
+use Rattle.bus_plan.specs.Plan.{PlannedDevice, is_matched, is_available, suppliers_of}
 use Rattle.bus_core.specs.CoreState.{CoreState}
-use Rattle.bus_core.specs.History.{IsBusHistory, bound_in, is_settled}
+use Rattle.bus_core.specs.History.{IsBusHistory, bound_in}
 use Rattle.bus_core.specs.Least.{IsClosed, IsLeast}
 use Rattle.bus_core.specs.Ready.{is_ready}
 use Rattle.bus_core.specs.Report.{status_of, end_status}
-use Rattle.bus_core.specs.Step.{is_supplier}
 use Rattle.bus_core.specs.declared.event.Report.{Report}
 use Rattle.bus_core.specs.declared.event.Report.TheVariants.{Settled, Missing}
 use Rattle.bus_core.specs.declared.status.Status.TheVariants as status

@@ -1,8 +1,8 @@
 -- What a keeper's events keep.
-use Rattle.std.proofs.Common.{◌≡◌, inl, inr, ℕ, ◌+◌, ◌-◌, ◌<◌, ◌≤◌, Bool, true, false, not, ◌&&◌, ◌||◌, List, [], ◌∷◌, ◌++◌, Option, Some, None, length, eqb, cond, set, get_or, refl, sym, ap, ◌∙◌, eq-eqb, ne_eqb, arith, length-set}
+use Rattle.std.proofs.Common.{◌≡◌, inl, inr, ℕ, ◌+◌, ◌-◌, ◌<◌, Bool, true, false, not, ◌&&◌, ◌||◌, List, [], ◌∷◌, ◌++◌, Option, Some, None, length, eqb, cond, set, get_or, refl, sym, ap, ◌∙◌, eq-eqb, ne_eqb, arith, length-set}
 use Rattle.std.specs.Prelude.{is_some, count_by}
 use Rattle.std.proofs.lemmas.Bool.{and_parts, or_parts, not-true, or_right, cases_eq}
-use Rattle.std.proofs.lemmas.List.{length-replicate, get_or-set_same, get_or-set_other}
+use Rattle.std.proofs.lemmas.List.{length-replicate}
 use Rattle.std.proofs.lemmas.List.Sums.{sum_by-set}
 use Rattle.std.proofs.lemmas.List.Folds.{sum_by-replicate}
 use Rattle.std.proofs.lemmas.List.Elements.{All-push, All-nil}

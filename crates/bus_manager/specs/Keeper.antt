@@ -1,5 +1,5 @@
 -- A keeper as contracts see it, and what holds of every keeper.
-use Rattle.std.specs.Prelude.{◌≡◌, ◌≤◌, ◌+◌, ℕ, Bool, true, false, List, [], ◌∷◌, ◌++◌, Some, None, Ok, length, count_by, All}
+use Rattle.std.specs.Prelude.{◌≡◌, ◌≤◌, ◌+◌, ℕ, true, false, List, [], ◌∷◌, ◌++◌, None, Ok, length, count_by, All}
 use Rattle.bus_plan.specs.LateDriver.{with_driver}
 use Rattle.bus_plan.specs.Plan.{PlannedDevice}
 use Rattle.bus_core.specs.declared.event.Event.{Event}

@@ -108,11 +108,13 @@ pub fn work<P: Prober, R: Threads + Sync>(
         return work(rt, alloc, board, plan, prober, crew, own, fewer);
     };
     let second = move || -> Worked<P::Note>
-        requires { IsSync R.row × (board.now.plan ≡ plan.now) × IsWorked (P.attests prober.now plan.now) plan.now board.now other }
+        requires { IsSync R.row × (board.now.plan ≡ plan.now)
+            × IsWorked (P.attests prober.now plan.now) plan.now board.now other }
         ensures { IsWorked (P.attests prober.entry.now plan.entry.now) plan.entry.now board.entry.now result }
     { work(rt, alloc, board, plan, prober, crew, other, fewer) };
     let first = move || -> Worked<P::Note>
-        requires { IsSync R.row × (board.now.plan ≡ plan.now) × IsWorked (P.attests prober.now plan.now) plan.now board.now own }
+        requires { IsSync R.row × (board.now.plan ≡ plan.now)
+            × IsWorked (P.attests prober.now plan.now) plan.now board.now own }
         ensures { IsWorked (P.attests prober.entry.now plan.entry.now) plan.entry.now board.entry.now result }
     { work(rt, alloc, board, plan, prober, crew, own, fewer) };
     let (theirs, mine) = thread::join(rt, second, first);

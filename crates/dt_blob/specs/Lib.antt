@@ -1,3 +1,4 @@
+pub mod Answers
 pub mod BigEndian
 pub mod Blob
 pub mod BlobError

@@ -1,10 +1,10 @@
 //! A tree as a canonical source.
-ghost use Rattle.std.specs.Prelude.{◌≡◌, ◌≤◌, ◌++◌, length, OnOk, MatchResult};
+ghost use Rattle.std.specs.Prelude.{◌≡◌, ◌≤◌, ◌++◌, length, OnOk};
+ghost use Rattle.dt_blob.specs.Answers.{Makes};
 ghost use Rattle.dt_blob.specs.Blob.{limit};
 ghost use Rattle.dt_blob.specs.BigEndian.{double_word};
 ghost use Rattle.dt_blob.specs.Steps.Printed.{Prints, form_of};
 ghost use Rattle.dt_blob.specs.SourceText.{hex_of, tabs, value_part, property_line, property_lines, begin_line, end_line, node_lines, reserve_line, reserve_lines, text_of};
-ghost use Rattle.dt_blob.specs.Blob.{Refuses};
 
 use crate::error::BlobError;
 use crate::room::check_pieces;
@@ -169,7 +169,7 @@ fn put_reserves(out: &mut Vec<u8>, reserves: &[(u64, u64)]) -> Result<(), BlobEr
 /// Prints a tree as a source. Fails with `TooLarge` where it has over 268,435,456 bytes, and with
 /// `NoMemory`. The processor that boots is left out, since no source can say it.
 pub fn source_text(alloc: Global, tree: &Tree) -> Result<Vec<u8>, BlobError>
-    ensures { MatchResult result (λ text. (text.items ≡ text_of tree.now) × (length text.items ≤ limit)) (λ e. Refuses (length (text_of tree.now)) e) }
+    ensures { Makes (λ text. text.items) (text_of tree.now) result }
 {
     let mut text = Vec::from_slice(alloc, b"/dts-v1/;\n\n")?;
     put_reserves(&mut text, tree.reserves())?;

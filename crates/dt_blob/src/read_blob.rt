@@ -1,10 +1,12 @@
 //! Reading a blob.
-ghost use Rattle.std.specs.Prelude.{◌≡◌, ◌≤◌, ◌↔◌, ◌⊎◌, IfErr, IfOk, IsErrOf, MatchResult, None, Some};
+ghost use Rattle.std.specs.Prelude.{◌≡◌, ◌≤◌, IfErr, IfOk, IsErrOf, MatchResult, Some};
 ghost use Rattle.dt_tree.specs.TreeData.{TreeData};
-ghost use Rattle.dt_blob.specs.HeaderWords.{IsRefusedAt, header_fault, kinds, reserves_of};
-ghost use Rattle.dt_blob.specs.Holds.{HaveNoEnd, Holds};
+ghost use Rattle.dt_blob.specs.Steps.Answered.{ReadsReserves};
+ghost use Rattle.dt_blob.specs.Answers.{IsMislaid, IsOfHeader, Reads};
+ghost use Rattle.dt_blob.specs.HeaderWords.{IsRefusedAt, header_fault, kinds};
+ghost use Rattle.dt_blob.specs.Holds.{Holds};
 ghost use Rattle.dt_blob.specs.Steps.NodeBuilders.{begun, root_from};
-ghost use Rattle.dt_blob.specs.Steps.Reading.{Gives, HasNoEnd, RefusesAll, reserves_at, tokens_at, tree_in};
+ghost use Rattle.dt_blob.specs.Steps.Reading.{Gives, RefusesAll, reserves_at, tokens_at, tree_in};
 
 use crate::error::BlobError;
 use crate::read_blocks::{BlobBlocks, blocks_in};
@@ -27,8 +29,7 @@ fn reserves_refused(blocks: BlobBlocks<'_>, error: ReadError) -> ReadError
 
 // The reserved memory of a blob, whose refusal is of one of so many bytes.
 fn reserved(alloc: Global, blocks: BlobBlocks<'_>, len: usize) -> Result<Vec<(u64, u64)>, ReadError>
-    ensures read { MatchResult result (λ v. reserves_at blocks.entry.reserves.now ≡ Some v.items)
-        (λ e. (e.kind ≡ BlobError.NoMemory) ⊎ HasNoEnd e.kind (reserves_at blocks.entry.reserves.now)) }
+    ensures read { ReadsReserves (λ v. v.items) blocks.entry.reserves.now result }
     ensures at { IfErr result (λ e. e.at ≤ len) }
 {
     match read_reserves(alloc, blocks.reserves) {
@@ -39,7 +40,8 @@ fn reserved(alloc: Global, blocks: BlobBlocks<'_>, len: usize) -> Result<Vec<(u6
 
 // The root of a blob, whose refusal is of one of so many bytes.
 fn root_of(alloc: Global, blocks: BlobBlocks<'_>, len: usize) -> Result<Node, ReadError>
-    ensures read { Gives (λ n. n) result (root_from begun (tokens_at blocks.entry.is_sized blocks.entry.strings.now blocks.entry.structure.now)) }
+    ensures read { Gives (λ n. n) result
+        (root_from begun (tokens_at blocks.entry.is_sized blocks.entry.strings.now blocks.entry.structure.now)) }
     ensures at { IfErr result (λ e. e.at ≤ len) }
 {
     match read_root(alloc, blocks.strings, blocks.structure, blocks.is_sized) {
@@ -72,15 +74,15 @@ pub fn read(alloc: Global, bytes: &[u8]) -> Result<Tree, ReadError>
     // What is read is held.
     ensures found { IfOk result (λ tree. Holds bytes.now tree) }
     // What is held is read, unless memory runs out.
-    ensures only { (tree : TreeData) → Holds bytes.now tree → MatchResult result (λ found. found ≡ tree) (λ e. e.kind ≡ BlobError.NoMemory) }
+    ensures only { (tree : TreeData) → Holds bytes.now tree → Reads tree result }
     // These refusals come exactly where the header has that fault first.
-    ensures too_large { IsErrOf (kinds result) BlobError.TooLarge ↔ (header_fault bytes.now ≡ Some BlobError.TooLarge) }
-    ensures truncated { IsErrOf (kinds result) BlobError.Truncated ↔ (header_fault bytes.now ≡ Some BlobError.Truncated) }
-    ensures bad_magic { IsErrOf (kinds result) BlobError.BadMagic ↔ (header_fault bytes.now ≡ Some BlobError.BadMagic) }
-    ensures bad_version { IsErrOf (kinds result) BlobError.BadVersion ↔ (header_fault bytes.now ≡ Some BlobError.BadVersion) }
+    ensures too_large { IsOfHeader BlobError.TooLarge bytes.now result }
+    ensures truncated { IsOfHeader BlobError.Truncated bytes.now result }
+    ensures bad_magic { IsOfHeader BlobError.BadMagic bytes.now result }
+    ensures bad_version { IsOfHeader BlobError.BadVersion bytes.now result }
     // This one too, and else the reserved memory has no end.
     ensures bad_layout { header_fault bytes.now ≡ Some BlobError.BadLayout → IsErrOf (kinds result) BlobError.BadLayout }
-    ensures no_end { IsErrOf (kinds result) BlobError.BadLayout → (header_fault bytes.now ≡ Some BlobError.BadLayout) ⊎ ((header_fault bytes.now ≡ None) × HaveNoEnd (reserves_of bytes.now)) }
+    ensures no_end { IsErrOf (kinds result) BlobError.BadLayout → IsMislaid bytes.now }
     // The word lies in the bytes; of a fault of the header it is the word that shows it.
     ensures at { IfErr result (IsRefusedAt bytes.now) }
 {

@@ -1,7 +1,8 @@
 //! The blocks of a blob.
-ghost use Rattle.std.specs.Prelude.{◌≡◌, ◌≤◌, ◌+◌, length, MatchResult, None, Some};
+ghost use Rattle.std.specs.Prelude.{◌≡◌, ◌≤◌, ◌+◌, length, MatchResult, None};
+ghost use Rattle.dt_blob.specs.Answers.{IsHeaderRefusal};
 ghost use Rattle.dt_blob.specs.Blocks.{AreBlocks};
-ghost use Rattle.dt_blob.specs.HeaderWords.{block, header_fault, header_fault_at};
+ghost use Rattle.dt_blob.specs.HeaderWords.{block, header_fault};
 
 use crate::parts::first;
 use crate::read_error::ReadError;
@@ -34,7 +35,8 @@ fn block(bytes: &[u8], place: u32, size: u32) -> &[u8]
 
 /// The blocks, by the header alone: the first of its faults (`TooLarge`, `Truncated`, `BadMagic`, `BadVersion`, `BadLayout`) else.
 pub fn blocks_in(bytes: &[u8]) -> Result<BlobBlocks<'_>, ReadError>
-    ensures { MatchResult result (λ b. AreBlocks bytes.now b × (header_fault bytes.now ≡ None)) (λ e. (header_fault bytes.now ≡ Some e.kind) × (e.at ≡ header_fault_at bytes.now)) }
+    ensures { MatchResult result (λ b. AreBlocks bytes.now b × (header_fault bytes.now ≡ None))
+        (IsHeaderRefusal bytes.now) }
 {
     let header = read_header(bytes)?;
     let blob = first(bytes, header.size as usize);

@@ -1,7 +1,9 @@
 //! The header of a blob and its tests.
-ghost use Rattle.std.specs.Prelude.{◌≡◌, ◌≤◌, ◌^◌, ◌+◌, length, drop, None, Some, true, false, MatchResult};
+ghost use Rattle.std.specs.Prelude.{◌≡◌, ◌≤◌, ◌+◌, length, None, Some, true, false, MatchResult};
+ghost use Rattle.dt_blob.specs.Steps.Answered.{ReadsHeader};
+ghost use Rattle.dt_blob.specs.Answers.{IsHeaderRefusal};
 ghost use Rattle.dt_blob.specs.Format.{header_size};
-ghost use Rattle.dt_blob.specs.HeaderWords.{word_at, structure_size_in, header_of, is_laid_out, IsMisplaced, fault_in, fault_at_in, header_fault, header_fault_at};
+ghost use Rattle.dt_blob.specs.HeaderWords.{word_at, structure_size_in, header_of, is_laid_out, IsMisplaced, header_fault};
 
 use crate::error::BlobError;
 use crate::header::{HEADER_SIZE, MAGIC, VERSION};
@@ -87,7 +89,8 @@ fn header_of(bytes: &[u8]) -> Header
 
 // Both blocks end inside the blob, whatever their sums, or begin there, and the two places are aligned.
 fn check_layout(header: Header) -> Result<(), ReadError>
-    ensures { MatchResult result (λ _. is_laid_out header ≡ true) (λ e. (is_laid_out header ≡ false) × IsMisplaced header e) }
+    ensures { MatchResult result (λ _. is_laid_out header ≡ true)
+        (λ e. (is_laid_out header ≡ false) × IsMisplaced header e) }
 {
     let size = u64::from(header.size);
     let structure = u64::from(header.structure_at);
@@ -124,7 +127,7 @@ fn misplaced(at: usize, wanted: Wanted) -> ReadError
 }
 
 fn check(header: Header, len: usize) -> Result<Header, ReadError>
-    ensures { MatchResult result (λ h. (h ≡ header) × (fault_in header len ≡ None)) (λ e. (fault_in header len ≡ Some e.kind) × (e.at ≡ fault_at_in header len)) }
+    ensures { ReadsHeader header len result }
 {
     if header.magic != MAGIC {
         return Err(refused(BlobError::BadMagic, MAGIC_AT, Wanted::MagicNumber));
@@ -148,7 +151,8 @@ fn check(header: Header, len: usize) -> Result<Header, ReadError>
 
 /// The header, once its tests are passed: their first fault else, at the word that shows it.
 pub(crate) fn read_header(bytes: &[u8]) -> Result<Header, ReadError>
-    ensures { MatchResult result (λ h. (h ≡ header_of bytes.now) × (header_fault bytes.now ≡ None)) (λ e. (header_fault bytes.now ≡ Some e.kind) × (e.at ≡ header_fault_at bytes.now)) }
+    ensures { MatchResult result (λ h. (h ≡ header_of bytes.now) × (header_fault bytes.now ≡ None))
+        (IsHeaderRefusal bytes.now) }
 {
     if bytes.len() > MAX_SIZE {
         return Err(refused(BlobError::TooLarge, MAX_SIZE, Wanted::FewerBytes));

@@ -1,7 +1,8 @@
 //! The nodes that tokens make.
-ghost use Rattle.std.specs.Prelude.{◌≡◌, ◌<◌, length, List, [], ◌∷◌, map, reverse, IfOk, Some, None, if◌then◌else◌};
+ghost use Rattle.std.specs.Prelude.{◌≡◌, ◌<◌, length, List, [], ◌∷◌, IfOk, Some, None, if◌then◌else◌};
 ghost use Rattle.dt_tree.specs.NodeView.{name_bytes};
 ghost use Rattle.dt_tree.specs.Name.{is_name};
+ghost use Rattle.dt_blob.specs.Steps.Answered.{in_node};
 ghost use Rattle.dt_blob.specs.Steps.NodeBuilders.{NodeSoFar, inside, node_so_far, so_far_of, state_of, begin_in, property_in, node_of, end_in, is_end, advance, begun, root_from};
 ghost use Rattle.dt_blob.specs.Steps.Reading.{Gives, token_at, token_of, tokens_at, left};
 ghost use Rattle.dt_blob.specs.Steps.TreeFault.{fault_of_tree};
@@ -75,7 +76,7 @@ fn begin_child(
     at: usize,
     name: &[u8],
 ) -> Result<(), ReadError>
-    ensures { Gives (λ _. inside (so_far_of top.new) (reverse (map so_far_of outer.new.items))) result (begin_in (inside (so_far_of top.old) (reverse (map so_far_of outer.old.items))) name.now) }
+    ensures { Gives (λ _. in_node top.new outer.new.items) result (begin_in (in_node top.old outer.old.items) name.now) }
 {
     if outer.len() >= MAX_DEPTH {
         return Err(refused(BlobError::BadTree, at, Wanted::Depth));
@@ -106,7 +107,8 @@ fn begin(alloc: Global, progress: Progress, at: usize, name: &[u8]) -> Result<Pr
 }
 
 fn property(alloc: Global, at: usize, name: &[u8], value: &[u8]) -> Result<Property, ReadError>
-    ensures { Gives (λ p. p) result (if is_name name.now then Some (record { name = name.now; value = value.now }) else None) }
+    ensures { Gives (λ p. p) result
+        (if is_name name.now then Some (record { name = name.now; value = value.now }) else None) }
 {
     let name_at = at.saturating_add(PROPERTY_NAME);
     let name = lawful(alloc, name_at, Wanted::PropertyName, name)?;
@@ -121,7 +123,8 @@ fn add(
     name: &[u8],
     value: &[u8],
 ) -> Result<(), ReadError>
-    ensures { (outer : List NodeSoFar) → Gives (λ _. inside (so_far_of top.new) outer) result (property_in (inside (so_far_of top.old) outer) name.now value.now) }
+    ensures { (outer : List NodeSoFar) → Gives (λ _. inside (so_far_of top.new) outer) result
+        (property_in (inside (so_far_of top.old) outer) name.now value.now) }
 {
     let children = top.children.len();
     if children > 0 {

@@ -1,6 +1,5 @@
 //! The block of memory reservations.
-ghost use Rattle.std.specs.Prelude.{◌≡◌, ◌≤◌, ◌⊎◌, length, MatchResult, Some};
-ghost use Rattle.dt_blob.specs.Steps.Reading.{HasNoEnd, reserves_at};
+ghost use Rattle.dt_blob.specs.Steps.Answered.{ReadsReserves};
 
 use crate::error::BlobError;
 use crate::parts::long;
@@ -11,7 +10,7 @@ use std::alloc::Global;
 
 /// The addresses and sizes before the first pair of zeros; `BadLayout` where none comes.
 pub(crate) fn read_reserves(alloc: Global, bytes: &[u8]) -> Result<Vec<(u64, u64)>, ReadError>
-    ensures { MatchResult result (λ v. reserves_at bytes.now ≡ Some v.items) (λ e. (e.kind ≡ BlobError.NoMemory) ⊎ HasNoEnd e.kind (reserves_at bytes.now)) }
+    ensures { ReadsReserves (λ v. v.items) bytes.now result }
 {
     let mut reserves = Vec::new(alloc);
     let mut rest = bytes;

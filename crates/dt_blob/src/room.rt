@@ -1,5 +1,6 @@
 //! The greatest size of a blob and of a text.
-ghost use Rattle.std.specs.Prelude.{◌≡◌, ◌+◌, ◌<◌, ◌≤◌, sum, MatchResult};
+ghost use Rattle.std.specs.Prelude.{◌+◌, ◌<◌, ◌≤◌, sum};
+ghost use Rattle.dt_blob.specs.Steps.Answered.{IsSize, IsWithin};
 ghost use Rattle.dt_blob.specs.Blob.{limit};
 
 use crate::error::BlobError;
@@ -10,7 +11,7 @@ pub const MAX_SIZE: usize = 268_435_456;
 /// The size with `few` and `more` bytes behind `used` ones. Refuses where they are too many.
 pub(crate) fn add_size(used: usize, few: usize, more: usize) -> Result<usize, BlobError>
     requires { used ≤ limit }
-    ensures { MatchResult result (λ size. (size ≡ used + few + more) × (size ≤ limit)) (λ e. (e ≡ BlobError.TooLarge) × (limit < used + few + more)) }
+    ensures { IsSize (used + few + more) result }
 {
     let room = MAX_SIZE - used;
     if few > room {
@@ -25,7 +26,7 @@ pub(crate) fn add_size(used: usize, few: usize, more: usize) -> Result<usize, Bl
 /// Refuses where pieces of these lengths behind `used` bytes are too many.
 pub(crate) fn check_pieces(used: usize, pieces: &[usize]) -> Result<(), BlobError>
     requires { used ≤ limit }
-    ensures { MatchResult result (λ _. used + sum pieces.now ≤ limit) (λ e. (e ≡ BlobError.TooLarge) × (limit < used + sum pieces.now)) }
+    ensures { IsWithin (used + sum pieces.now) result }
 {
     let mut room = MAX_SIZE - used;
     for piece in pieces {

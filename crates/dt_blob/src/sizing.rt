@@ -1,7 +1,7 @@
 //! How many bytes the blocks of a blob have, before one is made.
-ghost use Rattle.std.specs.Prelude.{◌≡◌, ◌+◌, ◌*◌, ◌<◌, ◌≤◌, length, MatchResult};
+ghost use Rattle.std.specs.Prelude.{◌+◌, ◌*◌, ◌<◌, ◌≤◌};
+ghost use Rattle.dt_blob.specs.Steps.Answered.{IsSize, reserves_size};
 ghost use Rattle.dt_blob.specs.Blob.{limit};
-ghost use Rattle.dt_blob.specs.Format.{reservation_size};
 ghost use Rattle.dt_blob.specs.Token.{property_tokens, tokens_of, tree_tokens};
 ghost use Rattle.dt_blob.specs.Steps.Written.{tokens_size};
 
@@ -16,7 +16,7 @@ pub(crate) const RESERVATION_SIZE: usize = 16;
 /// The reserved memory with its end, behind `used` bytes.
 pub(crate) fn add_reservations(used: usize, reserves: &[(u64, u64)]) -> Result<usize, BlobError>
     requires { used ≤ limit }
-    ensures { MatchResult result (λ size. (size ≡ used + (reservation_size * length reserves.now + reservation_size)) × (size ≤ limit)) (λ e. (e ≡ BlobError.TooLarge) × (limit < used + (reservation_size * length reserves.now + reservation_size))) }
+    ensures { IsSize (used + reserves_size reserves.now) result }
 {
     if reserves.len() > MAX_SIZE / RESERVATION_SIZE {
         return Err(BlobError::TooLarge);
@@ -27,7 +27,7 @@ pub(crate) fn add_reservations(used: usize, reserves: &[(u64, u64)]) -> Result<u
 /// The properties behind `used` bytes.
 fn add_properties(used: usize, properties: &[Property]) -> Result<usize, BlobError>
     requires { used ≤ limit }
-    ensures { MatchResult result (λ size. (size ≡ used + tokens_size (property_tokens properties.now)) × (size ≤ limit)) (λ e. (e ≡ BlobError.TooLarge) × (limit < used + tokens_size (property_tokens properties.now))) }
+    ensures { IsSize (used + tokens_size (property_tokens properties.now)) result }
 {
     let mut size = used;
     for property in properties {
@@ -40,7 +40,7 @@ fn add_properties(used: usize, properties: &[Property]) -> Result<usize, BlobErr
 /// The node and all below it, behind `used` bytes.
 fn add_node(used: usize, node: &Node) -> Result<usize, BlobError>
     requires { used ≤ limit }
-    ensures { MatchResult result (λ size. (size ≡ used + tokens_size (tokens_of node.now)) × (size ≤ limit)) (λ e. (e ≡ BlobError.TooLarge) × (limit < used + tokens_size (tokens_of node.now))) }
+    ensures { IsSize (used + tokens_size (tokens_of node.now)) result }
 {
     let len = node.name_bytes().len();
     let begun = add_size(used, 5 + padding_len(len + 1), len)?;
@@ -54,7 +54,7 @@ fn add_node(used: usize, node: &Node) -> Result<usize, BlobError>
 /// The structure block of a root with its end, behind `used` bytes.
 pub(crate) fn add_structure(used: usize, root: &Node) -> Result<usize, BlobError>
     requires { used ≤ limit }
-    ensures { MatchResult result (λ size. (size ≡ used + tokens_size (tree_tokens root.now)) × (size ≤ limit)) (λ e. (e ≡ BlobError.TooLarge) × (limit < used + tokens_size (tree_tokens root.now))) }
+    ensures { IsSize (used + tokens_size (tree_tokens root.now)) result }
 {
     let size = add_node(used, root)?;
     add_size(size, 4, 0)

@@ -1,9 +1,9 @@
 //! The strings block: where each name stands, and its bytes.
-ghost use Rattle.std.specs.Prelude.{◌≡◌, ℕ, List, ◌+◌, ◌≤◌, ◌<◌, ◌++◌, [], true, Option, None, slice_index_or, length, take, drop, IfOk, OnOk, MatchResult};
-ghost use Rattle.dt_blob.specs.Blob.{limit, names_in};
+ghost use Rattle.std.specs.Prelude.{◌≡◌, ℕ, List, ◌+◌, ◌≤◌, ◌<◌, ◌++◌, [], true, Option, None, slice_index_or, length, drop, IfOk, OnOk, MatchResult};
+ghost use Rattle.dt_blob.specs.Steps.Answered.{IsTableOf, block_before, names_of};
+ghost use Rattle.dt_blob.specs.Blob.{limit};
 ghost use Rattle.dt_blob.specs.Strings.{ended, with_name, with_names};
-ghost use Rattle.dt_blob.specs.Steps.Table.{ArePlaced, IsPlacedBehind, IsTable, IsClosed, Pending, no_zero, placed, with_sights};
-ghost use Rattle.dt_blob.specs.Token.{tokens_of};
+ghost use Rattle.dt_blob.specs.Steps.Table.{ArePlaced, IsTable, IsClosed, Pending, no_zero, placed};
 ghost use Rattle.dt_blob.specs.Blob.{Refuses};
 
 use crate::bytes::put_ended;
@@ -19,7 +19,8 @@ use std::marker::Model;
 fn place_tail(names: &Names, places: &mut [Option<usize>], tail: &[u8], start: usize)
     requires room { length places.old ≡ length names.now }
     requires some { 0 < length tail.now }
-    ensures { (block : List ℕ) → Pending names.now places.old block start tail.now → Pending names.now places.new block (start + 1) (drop 1 tail.now) }
+    ensures { (block : List ℕ) → Pending names.now places.old block start tail.now
+        → Pending names.now places.new block (start + 1) (drop 1 tail.now) }
 {
     names.check();
     let Some(at) = names.position(tail) else {
@@ -32,7 +33,8 @@ fn place_tail(names: &Names, places: &mut [Option<usize>], tail: &[u8], start: u
 fn place_tails(names: &Names, places: &mut [Option<usize>], name: &[u8], start: usize)
     requires room { length places.old ≡ length names.now }
     requires fits { start + length name.now ≤ limit }
-    ensures { (block : List ℕ) → length block ≡ start → IsClosed block → no_zero name.now ≡ true → IsTable names.now places.old block → IsTable names.now places.new (block ++ ended name.now) }
+    ensures { (block : List ℕ) → length block ≡ start → IsClosed block → no_zero name.now ≡ true
+        → IsTable names.now places.old block → IsTable names.now places.new (block ++ ended name.now) }
 {
     names.check();
     for skipped in 0..name.len() {
@@ -50,7 +52,8 @@ fn place(
     requires room { length places.old ≡ length names.now }
     requires inside { at < length names.now }
     requires fits { size ≤ limit }
-    ensures { (block : List ℕ) → length block ≡ size → IsClosed block → IsTable names.now places.old block → MatchResult result (λ next. IsPlacedBehind names.now places.new (with_name block (slice_index_or names.now at [])) next) (λ e. (e ≡ BlobError.TooLarge) × (limit < length (with_name block (slice_index_or names.now at [])))) }
+    ensures { (block : List ℕ) → length block ≡ size → IsClosed block → IsTable names.now places.old block
+        → IsTableOf names.now places.new (with_name block (slice_index_or names.now at [])) result }
 {
     names.check();
     if places[at].is_some() {
@@ -66,7 +69,7 @@ fn place(
 fn place_all(names: &Names, places: &mut [Option<usize>]) -> Result<usize, BlobError>
     requires room { length places.old ≡ length names.now }
     requires nowhere { (i : ℕ) (v : Option ℕ) → i < length names.now → slice_index_or places.old i v ≡ None }
-    ensures { MatchResult result (λ size. IsPlacedBehind names.now places.new (with_names [] names.now) size) (λ e. (e ≡ BlobError.TooLarge) × (limit < length (with_names [] names.now))) }
+    ensures { IsTableOf names.now places.new (with_names [] names.now) result }
 {
     let mut size = 0;
     for at in 0..names.len() {
@@ -77,7 +80,7 @@ fn place_all(names: &Names, places: &mut [Option<usize>]) -> Result<usize, BlobE
 
 /// The place of each name in the strings block, and the size of the block.
 fn places_of(alloc: Global, names: &Names) -> Result<(Vec<Option<usize>>, usize), BlobError>
-    ensures { MatchResult result (λ x. ArePlaced names.now x.0.items x.1) (λ e. Refuses (length (with_names [] names.now)) e) }
+    ensures { MatchResult result (λ x. ArePlaced names.now x.0.items x.1) (Refuses (length (with_names [] names.now))) }
 {
     let mut places = vec![in alloc; None; names.len()]?;
     let size = place_all(names, places.as_mut_slice())?;
@@ -106,7 +109,8 @@ impl<'a> Model for Strings<'a> {
 impl<'a> Strings<'a> {
     /// Those of a root and all below it.
     pub(crate) fn new(alloc: Global, hasher: RandomState, root: &'a Node) -> Result<Self, BlobError>
-        ensures { MatchResult result (λ strings. strings ≡ with_sights [] (names_in (tokens_of root.now))) (λ e. Refuses (length (with_names [] (with_sights [] (names_in (tokens_of root.now))))) e) }
+        ensures { MatchResult result (λ strings. strings ≡ names_of root.now)
+            (Refuses (length (with_names [] (names_of root.now)))) }
     {
         let names = Names::below(alloc, hasher, root)?;
         let (places, size) = places_of(alloc, &names)?;
@@ -140,8 +144,10 @@ impl<'a> Strings<'a> {
     /// Writes the name at `at`, where it begins behind `size` bytes, and answers how many there are then.
     fn put_name(&self, out: &mut Vec<u8>, at: usize, size: usize) -> Result<usize, AllocError>
         requires inside { at < length self.now }
-        requires behind { size ≡ length (with_names [] (take at self.now)) }
-        ensures { (whole : List ℕ) → out.old.items ≡ whole ++ with_names [] (take at self.now) → IfOk result (λ next. (next ≡ length (with_names [] (take (at + 1) self.now))) × (out.new.items ≡ whole ++ with_names [] (take (at + 1) self.now))) }
+        requires behind { size ≡ length (block_before at self.now) }
+        ensures { (whole : List ℕ) → out.old.items ≡ whole ++ block_before at self.now
+            → IfOk result (λ next. (next ≡ length (block_before (at + 1) self.now))
+            × (out.new.items ≡ whole ++ block_before (at + 1) self.now)) }
     {
         self.names.check();
         let place = self.places[at].unwrap_or(0);

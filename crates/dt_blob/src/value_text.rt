@@ -34,7 +34,8 @@ pub(crate) fn put_hex(out: &mut Vec<u8>, bytes: &[u8]) -> Result<(), AllocError>
 
 /// The bytes that are printed as they are, the mark that ends them, and what is behind it.
 fn split_mark(text: &[u8]) -> Option<(&[u8], u8, &[u8])>
-    ensures text { MatchOption result (strings_text false text.now ≡ text.now) (λ x. strings_text false text.now ≡ x.0.now ++ (mark_text x.1 (length x.2.now == 0) ++ strings_text false x.2.now)) }
+    ensures text { MatchOption result (strings_text false text.now ≡ text.now) (λ x. strings_text false text.now
+        ≡ x.0.now ++ (mark_text x.1 (length x.2.now == 0) ++ strings_text false x.2.now)) }
     ensures mark { IfSome result (λ x. is_mark x.1 ≡ true) }
     ensures len { IfSome result (λ x. length text.now ≡ length x.0.now + 1 + length x.2.now) }
 {

@@ -1,10 +1,8 @@
 //! The structure block of a tree, whose names have their offsets.
-ghost use Rattle.std.specs.Prelude.{◌≡◌, ◌+◌, ◌≤◌, ◌++◌, ◌∷◌, length, OnOk};
-ghost use Rattle.dt_blob.specs.BigEndian.{word};
-ghost use Rattle.dt_blob.specs.Blob.{limit, padding};
-ghost use Rattle.dt_blob.specs.Format.{begin_node_word, property_word};
+ghost use Rattle.std.specs.Prelude.{◌≡◌, ◌+◌, ◌≤◌, ◌++◌, [], length, OnOk};
+ghost use Rattle.dt_blob.specs.Blob.{limit, token_bytes};
 ghost use Rattle.dt_blob.specs.Steps.Table.{placed};
-ghost use Rattle.dt_blob.specs.Token.{begin_node, property_tokens, tokens_of, tree_tokens};
+ghost use Rattle.dt_blob.specs.Token.{begin_node, property, property_tokens, tokens_of, tree_tokens};
 ghost use Rattle.dt_blob.specs.Steps.Written.{all_bytes, bytes_by, tokens_size};
 
 use crate::bytes::{put_ended, put_padding, put_word};
@@ -15,7 +13,7 @@ use std::alloc::AllocError;
 
 fn put_begin(out: &mut Vec<u8>, name: &[u8]) -> Result<(), AllocError>
     requires { length name.now ≤ limit }
-    ensures { OnOk result (out.new.items ≡ out.old.items ++ (word begin_node_word ++ (name.now ++ 0 ∷ padding (length name.now + 1)))) }
+    ensures { OnOk result (out.new.items ≡ out.old.items ++ token_bytes [] (begin_node name.now)) }
 {
     put_word(out, BEGIN_NODE_WORD)?;
     put_ended(out, name)?;
@@ -25,7 +23,7 @@ fn put_begin(out: &mut Vec<u8>, name: &[u8]) -> Result<(), AllocError>
 fn put_value(out: &mut Vec<u8>, value: &[u8], offset: usize) -> Result<(), AllocError>
     requires value { length value.now ≤ limit }
     requires offset { offset ≤ limit }
-    ensures { OnOk result (out.new.items ≡ out.old.items ++ (word property_word ++ (word (length value.now) ++ (word offset ++ (value.now ++ padding (length value.now)))))) }
+    ensures { OnOk result (out.new.items ≡ out.old.items ++ bytes_by (λ _. offset) (property [] value.now)) }
 {
     put_word(out, PROPERTY_WORD)?;
     put_word(out, value.len() as u32)?;
@@ -40,7 +38,8 @@ fn put_properties(
     properties: &[Property],
 ) -> Result<(), AllocError>
     requires { tokens_size (property_tokens properties.now) ≤ limit }
-    ensures { OnOk result (out.new.items ≡ out.old.items ++ all_bytes (placed strings.now) (property_tokens properties.now)) }
+    ensures { OnOk result (out.new.items
+        ≡ out.old.items ++ all_bytes (placed strings.now) (property_tokens properties.now)) }
 {
     for property in properties {
         let offset = strings.offset(property.name.as_bytes());

@@ -1,11 +1,13 @@
-ghost use Rattle.std.specs.Prelude.{◌≡◌, ◌+◌, ◌*◌, ◌≤◌, ◌++◌, [], length, IfOk, OnOk, MatchResult};
-ghost use Rattle.dt_blob.specs.Blob.{Refuses, limit, names_in, header, reservations, blob_of};
-ghost use Rattle.dt_blob.specs.Format.{header_size, reservation_size};
+ghost use Rattle.std.specs.Prelude.{◌≡◌, ◌+◌, ◌≤◌, ◌++◌, [], length, IfOk, OnOk, MatchResult};
+ghost use Rattle.dt_blob.specs.Steps.Answered.{AreBlockPlaces, names_of, reserves_size};
+ghost use Rattle.dt_blob.specs.Answers.{Makes};
+ghost use Rattle.dt_blob.specs.Blob.{Refuses, limit, header, reservations, blob_of};
+ghost use Rattle.dt_blob.specs.Format.{header_size};
 ghost use Rattle.dt_blob.specs.Holds.{Holds};
-ghost use Rattle.dt_blob.specs.Steps.Table.{placed, with_sights};
+ghost use Rattle.dt_blob.specs.Steps.Table.{placed};
 ghost use Rattle.dt_blob.specs.Steps.Written.{all_bytes, tokens_size};
 ghost use Rattle.dt_blob.specs.Strings.{with_names};
-ghost use Rattle.dt_blob.specs.Token.{tokens_of, tree_tokens};
+ghost use Rattle.dt_blob.specs.Token.{tree_tokens};
 
 use crate::error::BlobError;
 use crate::header::{HEADER_SIZE, Sizes, put_header, put_reservations};
@@ -26,7 +28,10 @@ fn put_blocks(
 ) -> Result<(), AllocError>
     requires sizes { header_size + sizes.reserved + sizes.structure + sizes.strings ≤ limit }
     requires structure { tokens_size (tree_tokens tree.now.root) ≤ limit }
-    ensures { OnOk result (out.new.items ≡ (((out.old.items ++ header tree.now.boot_cpu sizes.reserved sizes.structure sizes.strings) ++ reservations tree.now.reserves) ++ all_bytes (placed strings.now) (tree_tokens tree.now.root)) ++ with_names [] strings.now) }
+    ensures { OnOk result (out.new.items
+        ≡ (((out.old.items ++ header tree.now.boot_cpu sizes.reserved sizes.structure sizes.strings)
+        ++ reservations tree.now.reserves) ++ all_bytes (placed strings.now) (tree_tokens tree.now.root))
+        ++ with_names [] strings.now) }
 {
     put_header(out, tree.boot_cpu(), sizes)?;
     put_reservations(out, tree.reserves())?;
@@ -42,11 +47,11 @@ fn blob_at(
     structure_at: usize,
     strings_at: usize,
 ) -> Result<Vec<u8>, BlobError>
-    requires structure { structure_at ≡ header_size + (reservation_size * length tree.now.reserves + reservation_size) }
+    requires structure { structure_at ≡ header_size + reserves_size tree.now.reserves }
     requires strings { strings_at ≡ structure_at + tokens_size (tree_tokens tree.now.root) }
     requires fits { strings_at ≤ limit }
-    requires names { strings.now ≡ with_sights [] (names_in (tokens_of tree.now.root)) }
-    ensures { MatchResult result (λ blob. (blob.items ≡ blob_of tree.now) × (length blob.items ≤ limit)) (λ e. Refuses (length (blob_of tree.now)) e) }
+    requires names { strings.now ≡ names_of tree.now.root }
+    ensures { Makes (λ blob. blob.items) (blob_of tree.now) result }
 {
     tree.check();
     let size = add_size(strings_at, 0, strings.size())?;
@@ -62,7 +67,7 @@ fn blob_at(
 
 /// Where the structure block and the strings block begin.
 fn block_places(tree: &Tree) -> Result<(usize, usize), BlobError>
-    ensures { MatchResult result (λ x. (x.0 ≡ header_size + (reservation_size * length tree.now.reserves + reservation_size)) × ((x.1 ≡ x.0 + tokens_size (tree_tokens tree.now.root)) × (x.1 ≤ limit))) (λ e. Refuses (length (blob_of tree.now)) e) }
+    ensures { MatchResult result (AreBlockPlaces tree.now) (Refuses (length (blob_of tree.now))) }
 {
     tree.check();
     let structure_at = add_reservations(HEADER_SIZE, tree.reserves())?;
@@ -73,7 +78,7 @@ fn block_places(tree: &Tree) -> Result<(usize, usize), BlobError>
 /// Makes the blob of a tree, in version 17. Fails with `TooLarge` where it has over `MAX_SIZE`
 /// bytes, and with `NoMemory`. The hasher is for the tree's names; no answer depends on it.
 pub fn write(alloc: Global, hasher: RandomState, tree: &Tree) -> Result<Vec<u8>, BlobError>
-    ensures blob { MatchResult result (λ blob. (blob.items ≡ blob_of tree.now) × (length blob.items ≤ limit)) (λ e. Refuses (length (blob_of tree.now)) e) }
+    ensures blob { Makes (λ blob. blob.items) (blob_of tree.now) result }
     ensures held { IfOk result (λ blob. Holds blob.items tree.now) }
 {
     tree.check();

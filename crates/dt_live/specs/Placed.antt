@@ -1,4 +1,5 @@
 pub mod AllRead
+pub mod Answers
 pub mod PlacedEdits
 pub mod PlacedTrees
 pub mod References

@@ -2,4 +2,5 @@
 pub mod Flattening
 pub mod Following
 pub mod Lists
+pub mod Placing
 pub mod Walks

@@ -1,3 +1,4 @@
+pub mod Answers
 pub mod BodyLaws
 pub mod Counts
 pub mod Filled

@@ -1,11 +1,12 @@
 //! Bodies.
 ghost use Rattle.std.specs.Prelude.{◌≡◌, ◌<◌, ◌||◌, ◌∷◌, Some, length, IfOk};
 ghost use Rattle.dt_text.specs.Expression.Reading.{Gives};
+ghost use Rattle.dt_source.specs.Reading.Answers.{begun_below, statement_below};
 ghost use Rattle.dt_source.specs.Reading.Returned.{ReadsStatement, ReadsBody};
 ghost use Rattle.dt_source.specs.Tree.{view};
 ghost use Rattle.dt_source.specs.Marks.{omits};
 ghost use Rattle.dt_source.specs.Words.{name_bytes};
-ghost use Rattle.dt_source.specs.Reading.Bodies.{name_at, ended_by, bare_by, marked_by, nameless, begun_at};
+ghost use Rattle.dt_source.specs.Reading.Bodies.{name_at, ended_by, bare_by, marked_by, nameless};
 ghost use Rattle.dt_source.specs.Reading.Bodies.{statement_at, named_below, after, body_below, body_at};
 
 use crate::marks::{labels_among, marks, omits};
@@ -109,7 +110,7 @@ fn begun<'a, 'text>(
     marks: &[Lexeme],
     ts: &'a [Lexeme],
 ) -> ReadStatement<'a, 'text>
-    ensures gives { ReadsStatement result (begun_at language text.now (body_below language text.now depth) nodes marks.now ts.now) }
+    ensures gives { ReadsStatement result (begun_below language text.now depth nodes marks.now ts.now) }
     ensures shorter { IfOk result (λ x. length x.rest.now < length ts.now) }
 {
     match ts {
@@ -183,7 +184,7 @@ fn statement<'a, 'text>(
     nodes: bool,
     ts: &'a [Lexeme],
 ) -> ReadStatement<'a, 'text>
-    ensures gives { ReadsStatement result (statement_at language text.now (body_below language text.now depth) nodes ts.now) }
+    ensures gives { ReadsStatement result (statement_below language text.now depth nodes ts.now) }
     ensures shorter { IfOk result (λ x. length x.rest.now < length ts.now) }
 {
     let (marks, rest) = marks(ts);
@@ -202,7 +203,8 @@ fn named<'a, 'text>(
     name: PlacedName<'text>,
     ts: &'a [Lexeme],
 ) -> ReadStatement<'a, 'text>
-    ensures gives { ReadsStatement result (named_below language text.now depth nodes marks.now name.entry.bytes.now ts.now) }
+    ensures gives { ReadsStatement result
+        (named_below language text.now depth nodes marks.now name.entry.bytes.now ts.now) }
     ensures shorter { IfOk result (λ x. length x.rest.now < length ts.now) }
 {
     match ts {

@@ -1,12 +1,10 @@
 //! Parts of files, filled in.
-ghost use Rattle.std.specs.Prelude.{◌≡◌, map, MatchResult, IfOk};
-ghost use Rattle.std.specs.Vec.Iter.{into_iter_items};
-ghost use Rattle.dt_source.specs.Filled.{part_of, file_at, filled_piece, is_stored, holds_file, filled_value};
+ghost use Rattle.std.specs.Prelude.{◌≡◌, map, IfOk};
+ghost use Rattle.dt_source.specs.Filled.{part_of, file_at, is_stored, holds_file, filled_value};
 ghost use Rattle.dt_source.specs.Filled.{filled_each, filled_entry, filled_body, filled_edit};
-ghost use Rattle.dt_source.specs.Reading.Several.{Reads};
+ghost use Rattle.dt_source.specs.Reading.Answers.{Fills, TakesFile, body_in, edits_in, entries_in, filled_behind, pieces_in};
 ghost use Rattle.dt_source.specs.Reading.Values.{built};
-ghost use Rattle.dt_source.specs.Reading.Filling.{put_filled};
-ghost use Rattle.dt_source.specs.Tree.{part_view, view, views, item_view};
+ghost use Rattle.dt_source.specs.Tree.{part_view, view, item_view};
 
 use crate::parts::Parts;
 use crate::tree::{FilePart, Item, Part, Statement};
@@ -17,7 +15,7 @@ use std::vec::IntoIter;
 
 // The next file, where it is that of the `/incbin/` at this place.
 fn file_at(binaries: &mut IntoIter<Binary>, at: u32) -> Result<Vec<u8>, Refusal>
-    ensures { MatchResult result (λ bytes. file_at at (into_iter_items binaries.old) ≡ Ok (bytes.items, into_iter_items binaries.new)) (λ r. file_at at (into_iter_items binaries.old) ≡ Err r) }
+    ensures { TakesFile at binaries.old binaries.new result }
 {
     let none = Refusal {
         kind: RefusalKind::Syntax,
@@ -52,7 +50,7 @@ fn fill_part<'a>(
     parts: &mut Parts<'a>,
     part: Part<'a>,
 ) -> Result<(), ReadError>
-    ensures { Reads (λ _. (built parts.new, into_iter_items binaries.new)) result (put_filled (built parts.old) (filled_piece (part_view part.entry) (into_iter_items binaries.old))) }
+    ensures { Fills built (filled_behind (part_view part.entry)) parts.old parts.new binaries.old binaries.new result }
 {
     match part {
         Part::Bytes(bytes) => parts.push_whole(bytes)?,
@@ -91,7 +89,7 @@ fn fill_value(
     binaries: &mut IntoIter<Binary>,
     value: &mut Vec<Part<'_>>,
 ) -> Result<(), ReadError>
-    ensures { Reads (λ _. (map part_view value.new.items, into_iter_items binaries.new)) result (filled_value (map part_view value.old.items) (into_iter_items binaries.old)) }
+    ensures { Fills pieces_in filled_value value.old value.new binaries.old binaries.new result }
 {
     if !holds_file(value.as_slice()) {
         return Ok(());
@@ -111,7 +109,7 @@ fn fill_statement(
     binaries: &mut IntoIter<Binary>,
     statement: &mut Statement<'_>,
 ) -> Result<(), ReadError>
-    ensures { Reads (λ _. (view statement.new, into_iter_items binaries.new)) result (filled_entry (view statement.old) (into_iter_items binaries.old)) }
+    ensures { Fills view filled_entry statement.old statement.new binaries.old binaries.new result }
 {
     match statement {
         Statement::Property { name: _, value } => fill_value(alloc, binaries, &mut value.parts),
@@ -133,7 +131,7 @@ fn fill_statements(
     binaries: &mut IntoIter<Binary>,
     body: &mut Vec<Statement<'_>>,
 ) -> Result<(), ReadError>
-    ensures { Reads (λ _. (map view body.new.items, into_iter_items binaries.new)) result (filled_each filled_entry (map view body.old.items) (into_iter_items binaries.old)) }
+    ensures { Fills entries_in (filled_each filled_entry) body.old body.new binaries.old binaries.new result }
 {
     for i in 0..body.len() {
         fill_statement(alloc, binaries, &mut body[i])?;
@@ -148,7 +146,7 @@ fn fill_body(
     binaries: &mut IntoIter<Binary>,
     body: &mut Vec<Statement<'_>>,
 ) -> Result<(), ReadError>
-    ensures { Reads (λ _. (views body.new.items, into_iter_items binaries.new)) result (filled_body (views body.old.items) (into_iter_items binaries.old)) }
+    ensures { Fills body_in filled_body body.old body.new binaries.old binaries.new result }
 {
     fill_statements(alloc, binaries, body)
 }
@@ -158,7 +156,7 @@ fn fill_item(
     binaries: &mut IntoIter<Binary>,
     item: &mut Item<'_>,
 ) -> Result<(), ReadError>
-    ensures { Reads (λ _. (item_view item.new, into_iter_items binaries.new)) result (filled_edit (item_view item.old) (into_iter_items binaries.old)) }
+    ensures { Fills item_view filled_edit item.old item.new binaries.old binaries.new result }
 {
     match item {
         Item::Root { at: _, body } => fill_body(alloc, binaries, body),
@@ -178,7 +176,7 @@ pub(crate) fn fill_items(
     binaries: &mut IntoIter<Binary>,
     items: &mut Vec<Item<'_>>,
 ) -> Result<(), ReadError>
-    ensures { Reads (λ _. (map item_view items.new.items, into_iter_items binaries.new)) result (filled_each filled_edit (map item_view items.old.items) (into_iter_items binaries.old)) }
+    ensures { Fills edits_in (filled_each filled_edit) items.old items.new binaries.old binaries.new result }
 {
     for i in 0..items.len() {
         fill_item(alloc, binaries, &mut items[i])?;

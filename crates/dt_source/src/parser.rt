@@ -3,10 +3,9 @@ ghost use Rattle.std.specs.Prelude.{◌≡◌, ℕ, List, IfOk, IfErr};
 ghost use Rattle.dt_source.specs.declared.error.SourceErrorKind.TheVariants.{TooLong};
 ghost use Rattle.dt_text.specs.declared.lexeme.language.Language.{Language};
 ghost use Rattle.dt_text.specs.declared.lexeme.lexeme.Fault.{Fault};
+ghost use Rattle.dt_source.specs.Answers.{AtMostOne, NeverBoth};
 ghost use Rattle.dt_source.specs.Laws.{OnlyMemoryRefusesWhatIsSaid, OnlyMemoryAndTheFaultRefuse};
-ghost use Rattle.dt_source.specs.TreeMeaning.Syntax.{Meaning};
 ghost use Rattle.dt_source.specs.Meaning.{meaning_of, outlined};
-ghost use Rattle.dt_source.specs.Source.{SourceTree};
 ghost use Rattle.dt_source.specs.Places.{beginning};
 ghost use Rattle.dt_source.specs.Parse.{IsShort, IsSource, Says, HasFirstFault, Refuses, IsRead, IfRefused};
 
@@ -87,9 +86,9 @@ pub fn parse<'a>(
 /// A text spells one source at most, and one answer fits it: where it says something nothing but want of memory
 /// refuses it, and where it has a fault nothing but that and want of memory.
 pub fn one_source()
-    ensures one { (language : Language) (text : List ℕ) (s t : SourceTree) → IsSource language text s → IsSource language text t → s ≡ t }
-    ensures meaning { (language : Language) (text : List ℕ) (m n : Meaning) → Says language text m → Says language text n → m ≡ n }
+    ensures one { (language : Language) (text : List ℕ) → AtMostOne (IsSource language text) }
+    ensures meaning { (language : Language) (text : List ℕ) → AtMostOne (Says language text) }
     ensures accepted { OnlyMemoryRefusesWhatIsSaid }
-    ensures fault { (language : Language) (text : List ℕ) (m : Meaning) (f : Fault) → Says language text m → HasFirstFault language text f → ⊥ }
+    ensures fault { (language : Language) (text : List ℕ) → NeverBoth (Says language text) (HasFirstFault language text) }
     ensures faulty { OnlyMemoryAndTheFaultRefuse }
 {}

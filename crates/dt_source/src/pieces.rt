@@ -1,8 +1,8 @@
 //! Values of properties.
-ghost use Rattle.std.specs.Prelude.{◌≡◌, ◌≤◌, ◌<◌, length, map, IfOk, IfSome, option_map};
+ghost use Rattle.std.specs.Prelude.{◌≡◌, ◌≤◌, ◌<◌, length, IfOk, IfSome, option_map};
 ghost use Rattle.dt_source.specs.Reading.Several.{Reads};
+ghost use Rattle.dt_source.specs.Reading.Answers.{ReadsValue};
 ghost use Rattle.dt_source.specs.Reading.Returned.{Pushes};
-ghost use Rattle.dt_source.specs.Tree.{part_view};
 ghost use Rattle.dt_source.specs.Pieces.{width_at};
 ghost use Rattle.dt_source.specs.Reading.Bodies.{labels_at, less_at, bits_at};
 ghost use Rattle.dt_source.specs.Marks.{is_label};
@@ -199,7 +199,7 @@ pub(crate) fn value<'a, 'text>(
     text: &'text [u8],
     ts: &'a [Lexeme],
 ) -> Result<Read<'a, Vec<Part<'text>>>, ReadError>
-    ensures gives { Reads (λ x. (map part_view x.found.items, x.fault, x.rest.now)) result (value_at language text.now ts.now) }
+    ensures gives { ReadsValue result (value_at language text.now ts.now) }
     ensures shorter { IfOk result (λ x. length x.rest.now < length ts.now) }
 {
     let mut parts = Parts::new(alloc);

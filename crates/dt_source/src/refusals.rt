@@ -1,7 +1,7 @@
 //! How a text is refused: by what can't be read, or by the first fault of a value.
 ghost use Rattle.std.specs.Prelude.{◌≡◌};
-ghost use Rattle.dt_text.specs.declared.lexeme.language.Language.{Language};
-ghost use Rattle.dt_source.specs.Parse.{IsShort, HasFirstFault, Refuses, IfRefused, refused_at};
+ghost use Rattle.dt_source.specs.Answers.{IsRefusedIn};
+ghost use Rattle.dt_source.specs.Parse.{IsShort, HasFirstFault, IfRefused, refused_at};
 
 use crate::error::{SourceError, SourceErrorKind, kind_of_fault, kind_of_refusal};
 use crate::place::{Place, place_at};
@@ -33,7 +33,7 @@ pub(crate) fn refused_at(
 /// Why a text is refused that isn't in the grammar or nests too deep, and where.
 pub(crate) fn error_of(text: &[u8], refusal: ReadError) -> SourceError
     requires { IsShort text.now }
-    ensures { (language : Language) → IfRefused language text.now refusal → Refuses language text.now result.kind result.place }
+    ensures { IsRefusedIn (λ language. IfRefused language text.now refusal) text.now result }
 {
     match refusal {
         ReadError::NoMemory => SourceError {
@@ -50,7 +50,7 @@ pub(crate) fn error_of(text: &[u8], refusal: ReadError) -> SourceError
 /// Why a text is refused whose first fault this is, and where.
 pub(crate) fn fault_error(text: &[u8], fault: Fault) -> SourceError
     requires { IsShort text.now }
-    ensures { (language : Language) → HasFirstFault language text.now fault → Refuses language text.now result.kind result.place }
+    ensures { IsRefusedIn (λ language. HasFirstFault language text.now fault) text.now result }
 {
     SourceError {
         kind: kind_of_fault(fault.kind),

@@ -3,6 +3,7 @@ ghost use Rattle.std.specs.Prelude.{◌≡◌, ◌≤◌, ◌<◌, ◌++◌, ◌
 ghost use Rattle.std.specs.Prelude.{IfOk, OnOk, IfSome};
 ghost use Rattle.dt_text.specs.Expression.Reading.{Gives};
 ghost use Rattle.dt_source.specs.Reading.Several.{Reads};
+ghost use Rattle.dt_source.specs.Reading.Answers.{ReadsItems};
 ghost use Rattle.dt_source.specs.Reading.Returned.{ReadsItem, ReadsItemBody, ReadsTarget};
 ghost use Rattle.dt_source.specs.Tree.{views, item_view};
 ghost use Rattle.dt_source.specs.Meaning.{outlined};
@@ -382,7 +383,7 @@ fn all_items<'a, 'text>(
     text: &'text [u8],
     ts: &'a [Lexeme],
 ) -> Result<Read<'a, Vec<Item<'text>>>, ReadError>
-    ensures { Reads (λ x. (map item_view x.found.items, x.fault, x.rest.now)) result (all_items_at language text.now ts.now) }
+    ensures { ReadsItems result (all_items_at language text.now ts.now) }
 {
     let mut items = Vec::new(alloc);
     let mut first = None;

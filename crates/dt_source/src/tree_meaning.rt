@@ -1,6 +1,6 @@
 //! What a source means: the definitions of the edits, of phandles, symbols and fixups, and of the resolved tree.
 //!
-//! The definitions stand in `specs/` and follow the Devicetree Specification v0.4, chapter 6, and dtc's dt-object-internal.
+//! The definitions stand in `specs/TreeMeaning/` and follow the Devicetree Specification v0.4, chapter 6, and dtc's dt-object-internal.
 
 mod dtc_laws;
 mod dtc_rows;

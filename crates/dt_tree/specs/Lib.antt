@@ -1,3 +1,4 @@
+pub mod Answers
 pub mod Cell
 pub mod Changes
 pub mod Falls

@@ -3,7 +3,8 @@ ghost use Rattle.std.specs.Prelude.{◌≡◌, ◌≢◌, ◌⊎◌, ℕ, List, 
 ghost use Rattle.dt_tree.specs.Name.{are_names};
 ghost use Rattle.dt_tree.specs.Path.{is_path, path_names, path_text};
 ghost use Rattle.dt_tree.specs.PathMap.{tree_map, path_map, IsPathMap};
-ghost use Rattle.dt_tree.specs.Preorder.{precedes, preorder};
+ghost use Rattle.dt_tree.specs.Answers.{has_node, is_before};
+ghost use Rattle.dt_tree.specs.Preorder.{preorder};
 ghost use Rattle.dt_tree.specs.TreeData.{TreeData, IsTree};
 
 /// The map loses nothing: two trees with the same map are the same tree.
@@ -26,14 +27,15 @@ pub fn path_texts_and_names()
 
 /// Preorder is an order of the paths of a tree: of two paths one stands before the other, and not the other before it.
 pub fn preorder_of_a_tree()
-    ensures apart { (t : TreeData) → IsTree t → (p q : List (List ℕ)) → precedes (path_map t.root) p q ≡ true → precedes (path_map t.root) q p ≡ false }
-    ensures total { (t : TreeData) → (p q : List (List ℕ)) → (path_map t.root).has p ≡ true → (path_map t.root).has q ≡ true → (p ≡ q) ⊎ (precedes (path_map t.root) p q ≡ true) ⊎ (precedes (path_map t.root) q p ≡ true) }
+    ensures apart { (t : TreeData) → IsTree t → (p q : List (List ℕ)) → is_before t p q ≡ true → is_before t q p ≡ false }
+    ensures total { (t : TreeData) → (p q : List (List ℕ)) → has_node t p ≡ true → has_node t q ≡ true
+        → (p ≡ q) ⊎ (is_before t p q ≡ true) ⊎ (is_before t q p ≡ true) }
 {}
 
 /// The list of paths has exactly those of the tree, each once and in their order.
 pub fn paths_in_preorder()
-    ensures standing { (t : TreeData) → IsTree t → All (λ path. (path_map t.root).has path ≡ true) (preorder t.root) }
-    ensures all { (t : TreeData) → (path : List (List ℕ)) → (path_map t.root).has path ≡ true → Contains (preorder t.root) path }
+    ensures standing { (t : TreeData) → IsTree t → All (λ path. has_node t path ≡ true) (preorder t.root) }
+    ensures all { (t : TreeData) → (path : List (List ℕ)) → has_node t path ≡ true → Contains (preorder t.root) path }
     ensures once { (t : TreeData) → IsTree t → AllPairs (λ p q. p ≢ q) (preorder t.root) }
-    ensures ordered { (t : TreeData) → IsTree t → AllPairs (λ p q. precedes (path_map t.root) p q ≡ true) (preorder t.root) }
+    ensures ordered { (t : TreeData) → IsTree t → AllPairs (λ p q. is_before t p q ≡ true) (preorder t.root) }
 {}

@@ -1,5 +1,6 @@
 //! The checks that a new node has to pass.
-ghost use Rattle.std.specs.Prelude.{◌≡◌, ◌+◌, ◌≤◌, ◌⊎◌, ◌||◌, ◌==◌, ℕ, List, not, IfOk, OnOk, MatchResult, IsTrue, true, length, None, Some};
+ghost use Rattle.std.specs.Prelude.{◌≡◌, ◌+◌, ◌||◌, ◌==◌, ℕ, List, not, IfOk, OnOk, IsTrue, true, length, None, Some};
+ghost use Rattle.dt_tree.specs.Answers.{IsRefusedAtFirst};
 ghost use Rattle.dt_tree.specs.NodeData.{siblings, child_names, property_names, height_of};
 ghost use Rattle.dt_tree.specs.Sound.{are_distinct, IsSoundBelow};
 ghost use Rattle.std.specs.Str.{bytes_eq};
@@ -31,7 +32,7 @@ pub(crate) fn check_parts(
     properties: &[Property],
     children: &[Node],
 ) -> Result<(), TreeError>
-    ensures { MatchResult result (λ _. fault_of properties.now children.now ≡ None) (λ e. (fault_of properties.now children.now ≡ Some e) ⊎ (e ≡ TreeError.NoMemory)) }
+    ensures { IsRefusedAtFirst (fault_of properties.now children.now) result }
 {
     if !are_named(children) {
         return Err(TreeError::BadName);

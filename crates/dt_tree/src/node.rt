@@ -1,5 +1,6 @@
-ghost use Rattle.std.specs.Prelude.{◌≡◌, ◌<◌, ◌≤◌, ◌⊎◌, ◌∷◌, ◌++◌, [], All, IsTrue, IfOk, OnOk, MatchResult, true, None, Some};
+ghost use Rattle.std.specs.Prelude.{◌≡◌, ◌<◌, ◌≤◌, ◌∷◌, ◌++◌, [], All, IsTrue, IfOk, OnOk, true, None, Some};
 ghost use Rattle.std.specs.Option.{option_copied};
+ghost use Rattle.dt_tree.specs.Answers.{IsRefusedAtFirst};
 ghost use Rattle.dt_tree.specs.Fault.{are_named, fault_of, is_named};
 ghost use Rattle.dt_tree.specs.Name.{is_name};
 ghost use Rattle.dt_tree.specs.NodeData.{node_data, siblings, height_of, node_size, child_names, property_names};
@@ -61,7 +62,7 @@ impl Node {
         children: Vec<Node>,
     ) -> Result<Node, TreeError>
         ensures node { IfOk result (λ node. node ≡ node_data (name_bytes name) properties.items (siblings children.items)) }
-        ensures fault { MatchResult result (λ _. fault_of properties.items children.items ≡ None) (λ e. (fault_of properties.items children.items ≡ Some e) ⊎ (e ≡ TreeError.NoMemory)) }
+        ensures fault { IsRefusedAtFirst (fault_of properties.items children.items) result }
     {
         check_parts(alloc, properties.as_slice(), children.as_slice())?;
         Ok(Node::from_distinct(name, properties, children))

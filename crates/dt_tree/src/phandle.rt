@@ -1,8 +1,8 @@
 //! The numbers by which nodes name one another.
 ghost use Rattle.std.specs.Prelude.{◌≡◌, ◌∷◌, ◌++◌, IfOk};
 ghost use Rattle.std.specs.Option.{option_map};
-ghost use Rattle.dt_tree.specs.Path.{behind_slashes};
 ghost use Rattle.dt_tree.specs.Phandle.{phandle_from, phandle_in, phandle_of};
+ghost use Rattle.dt_tree.specs.Private.Answered.{IsWritten};
 ghost use Rattle.dt_tree.specs.Private.PhandleWalk.{has_phandle, phandle_or_zero, greatest_below, path_below};
 
 use crate::bytes::Bytes;
@@ -86,7 +86,7 @@ impl Node {
         alloc: Global,
         phandle: u32,
     ) -> Result<Option<Vec<u8>>, AllocError>
-        ensures { IfOk result (λ found. option_map (λ text. text.items) found ≡ option_map behind_slashes (path_below self.now phandle)) }
+        ensures { IfOk result (λ found. IsWritten (path_below self.now phandle) (option_map (λ text. text.items) found)) }
     {
         if self.has_phandle(phandle) {
             return Ok(Some(Vec::new(alloc)));

@@ -1,8 +1,9 @@
 //! The phandles of a whole tree, whose reserved nodes have none.
 ghost use Rattle.std.specs.Prelude.{◌≡◌, IfOk};
 ghost use Rattle.std.specs.Option.{option_map};
-ghost use Rattle.dt_tree.specs.Path.{behind_slashes, path_names};
+ghost use Rattle.dt_tree.specs.Path.{path_names};
 ghost use Rattle.dt_tree.specs.Phandle.{is_reserved_name};
+ghost use Rattle.dt_tree.specs.Private.Answered.{IsWritten};
 ghost use Rattle.dt_tree.specs.Private.PhandleWalk.{greatest_in_tree, path_in_tree};
 
 use crate::node::Node;
@@ -35,7 +36,7 @@ impl Node {
 
     /// The names of the path of the first node of the tree with a phandle, each behind a slash.
     fn path_in_tree(&self, alloc: Global, phandle: u32) -> Result<Option<Vec<u8>>, AllocError>
-        ensures { IfOk result (λ found. option_map (λ text. text.items) found ≡ option_map behind_slashes (path_in_tree self.now phandle)) }
+        ensures { IfOk result (λ found. IsWritten (path_in_tree self.now phandle) (option_map (λ text. text.items) found)) }
     {
         if self.has_phandle(phandle) {
             return Ok(Some(Vec::new(alloc)));

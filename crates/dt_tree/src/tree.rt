@@ -1,8 +1,9 @@
-ghost use Rattle.std.specs.Prelude.{◌≡◌, ◌≢◌, ◌<◌, ◌^◌, [], filter, IfOk, MatchOption, MatchResult};
+ghost use Rattle.std.specs.Prelude.{◌≡◌, ◌≢◌, ◌<◌, ◌^◌, [], filter, IfOk, MatchResult};
 ghost use Rattle.std.specs.Option.{option_copied};
+ghost use Rattle.dt_tree.specs.Answers.{IsFirstPath};
 ghost use Rattle.dt_tree.specs.Path.{path_names};
 ghost use Rattle.dt_tree.specs.PathMap.{node_at, path_map};
-ghost use Rattle.dt_tree.specs.Phandle.{IsGreatest, IsFirstWith, IsNowhere};
+ghost use Rattle.dt_tree.specs.Phandle.{IsGreatest};
 ghost use Rattle.dt_tree.specs.TreeData.{tree_data, is_reserve, AreLong, IsTree};
 
 mod changing;
@@ -107,7 +108,7 @@ impl Tree {
 
     /// The path of the first node with this phandle, in the order in which a tree is read.
     pub fn by_phandle(&self, alloc: Global, phandle: u32) -> Result<Option<Path>, AllocError>
-        ensures { IfOk result (λ found. MatchOption found (IsNowhere (path_map self.now.root) phandle) (λ path. IsFirstWith (path_map self.now.root) phandle (path_names path))) }
+        ensures { IfOk result (λ found. IsFirstPath (path_map self.now.root) phandle found) }
     {
         self.root.check();
         self.root.path_to(alloc, phandle)

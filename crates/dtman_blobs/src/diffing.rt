@@ -49,7 +49,8 @@ pub fn diff_bytes(
     second: &[u8],
 ) -> Result<Vec<u8>, DiffError>
     // Nothing is printed exactly where the trees that the bytes hold are the same board, in one order where that is asked for.
-    ensures same { (s t : TreeData) → Holds first.now s → Holds second.now t → IfOk result (λ text. TellsSame sameness s t text.items) }
+    ensures same { (s t : TreeData) → Holds first.now s → Holds second.now t
+        → IfOk result (λ text. TellsSame sameness s t text.items) }
     // A refusal of a blob has its reason in the bytes.
     ensures refused { IfErr result (IsDiffRefusal first.now second.now) }
 {

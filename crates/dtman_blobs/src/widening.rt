@@ -134,7 +134,8 @@ fn put_moved(
     requires strings { places.strings_at ≤ length blob.now }
     requires fits { length blob.now + zeros ≤ size }
     requires short { size < 2 ^ 32 }
-    ensures { OnOk result (out.new.items ≡ out.old.items ++ moved blob.now places.structure_at places.strings_at zeros size) }
+    ensures { OnOk result (out.new.items ≡ out.old.items
+        ++ moved blob.now places.structure_at places.strings_at zeros size) }
 {
     out.extend_from_slice(&blob[..4])?;
     put_word(out, size as u32)?;

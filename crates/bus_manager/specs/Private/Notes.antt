@@ -1,5 +1,5 @@
 -- What the parts of a run say of its notes.
-use Rattle.std.specs.Prelude.{◌≡◌, ◌≢◌, ◌<◌, ℕ, Bool, true, false, List, Option, Some, None, length, slice_index_or, All}
+use Rattle.std.specs.Prelude.{◌≡◌, ◌≢◌, ◌<◌, ℕ, Bool, true, List, Option, Some, None, length, slice_index_or, All}
 use Rattle.std.specs.List.{list_all}
 use Rattle.bus_plan.specs.Plan.{PlannedDevice, suppliers_of}
 use Rattle.bus_core.specs.Least.{IsClosed}

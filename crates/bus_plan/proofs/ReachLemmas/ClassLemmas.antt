@@ -1,8 +1,8 @@
 -- In classes walks both ways find what a device takes and is taken by.
-use Rattle.std.proofs.Common.{◌≡◌, ◌⊎◌, inl, inr, ⊎_elim, ℕ, ◌+◌, ◌<◌, ◌≤◌, Bool, true, false, not, nat_lt, nat_le, List, [], ◌∷◌, length, get_or, replicate, refl, sym, ap, ◌∙◌, subst, arith}
-use Rattle.std.specs.Prelude.{◌==◌, ◌||◌, ◌&&◌, ◌↔◌}
+use Rattle.std.proofs.Common.{◌≡◌, ◌⊎◌, inl, inr, ⊎_elim, ℕ, ◌+◌, ◌<◌, ◌≤◌, Bool, true, false, not, nat_lt, nat_le, List, length, get_or, replicate, refl, sym, ap, ◌∙◌, subst, arith}
+use Rattle.std.specs.Prelude.{◌||◌, ◌&&◌, ◌↔◌}
 use Rattle.std.specs.List.{list_all}
-use Rattle.std.proofs.lemmas.Bool.{eqb-true, eq-eqb, cases_eq, cases_lt}
+use Rattle.std.proofs.lemmas.Bool.{cases_eq}
 use Rattle.std.proofs.lemmas.Bool.Decides.{nat_tests}
 use Rattle.std.proofs.lemmas.List.{length-replicate}
 use Rattle.dt_tree.proofs.Places.{both}
@@ -11,7 +11,7 @@ use Rattle.bus_plan.specs.declared.reach.direction.Direction.{Direction}
 use Rattle.bus_plan.specs.declared.reach.direction.Direction.TheVariants.{Suppliers, Consumers}
 use Rattle.bus_plan.specs.Reach.Takes.{Takes}
 use Rattle.bus_plan.specs.Reach.Components.{TakeEachOther}
-use Rattle.bus_plan.specs.Reach.Reached.{is_in, Follows, AreFollowers}
+use Rattle.bus_plan.specs.Reach.Reached.{is_in, AreFollowers}
 use Rattle.bus_plan.specs.Reach.Private.Walk.{class_of, IsWalked}
 use Rattle.bus_plan.specs.Reach.Private.Classes.{AreInOrderBelow, AreClasses}
 use Rattle.bus_plan.proofs.ReachLemmas.InLemmas.{some_or, or_left, or_right, list_all_in}

@@ -7,8 +7,8 @@ use Rattle.std.proofs.lemmas.List.{take-append-le}
 use Rattle.std.proofs.lemmas.List.Folds.{list_any_at, list_any_more}
 use Rattle.bus_plan.specs.Plan.{PlannedDevice, IsLawful}
 use Rattle.bus_plan.specs.declared.reach.direction.Direction.{Direction}
-use Rattle.bus_plan.specs.Reach.Reached.{is_in, next, Follows}
-use Rattle.bus_plan.specs.Reach.Private.Walk.{class_of, with_device, with_devices, IsMet, IsClosed, IsUnderway, IsWalked}
+use Rattle.bus_plan.specs.Reach.Reached.{is_in, next}
+use Rattle.bus_plan.specs.Reach.Private.Walk.{class_of, with_device, with_devices, IsMet, IsUnderway, IsWalked}
 use Rattle.bus_plan.proofs.ReachLemmas.InLemmas.{some_or, or_left, or_right, in_all, in_append, in_here}
 use Rattle.bus_plan.proofs.ReachLemmas.TakesLemmas.{next_known, follows_itself, follows_next}
 

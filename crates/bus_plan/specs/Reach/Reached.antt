@@ -1,5 +1,5 @@
 -- The devices that a device takes, or that take it.
-use Rattle.std.specs.Prelude.{◌≡◌, ◌↔◌, ℕ, ◌<◌, Bool, true, ◌==◌, List, length}
+use Rattle.std.specs.Prelude.{◌≡◌, ◌↔◌, ℕ, Bool, true, ◌==◌, List}
 use Rattle.std.specs.List.{list_any}
 use Rattle.bus_plan.specs.Plan.{PlannedDevice, suppliers_of}
 use Rattle.bus_plan.specs.Consumers.{consumers_of}

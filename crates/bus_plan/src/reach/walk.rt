@@ -22,7 +22,8 @@ fn enter(
     ensures found { OnOk result (found.new.items ≡ with_device classes.now class found.old.items device) }
     ensures stamped { OnOk result (AreStamped stamp stamps.new found.new.items) }
     ensures only { OnOk result (OnlyStamps stamp stamps.old stamps.new) }
-    ensures left { OnOk result (unstamped stamp stamps.new + length found.new.items ≡ unstamped stamp stamps.old + length found.old.items) }
+    ensures left { OnOk result (unstamped stamp stamps.new + length found.new.items
+        ≡ unstamped stamp stamps.old + length found.old.items) }
 {
     if stamps[device.index()] == stamp {
         return Ok(());
@@ -49,7 +50,8 @@ fn enter_all(
     ensures found { OnOk result (found.new.items ≡ with_devices classes.now class found.old.items devices.now) }
     ensures stamped { OnOk result (AreStamped stamp stamps.new found.new.items) }
     ensures only { OnOk result (OnlyStamps stamp stamps.old stamps.new) }
-    ensures left { OnOk result (unstamped stamp stamps.new + length found.new.items ≡ unstamped stamp stamps.old + length found.old.items) }
+    ensures left { OnOk result (unstamped stamp stamps.new + length found.new.items
+        ≡ unstamped stamp stamps.old + length found.old.items) }
 {
     for device in devices {
         enter(classes, class, stamps, stamp, found, *device)?;

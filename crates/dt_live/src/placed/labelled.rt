@@ -1,10 +1,11 @@
 //! The node that has a label.
-ghost use Rattle.std.specs.Prelude.{◌≡◌, ◌<◌, ◌≤◌, ◌∷◌, ◌++◌, [], ℕ, All, IfOk, IfSome, List, OnOk, length};
-ghost use Rattle.dt_source.specs.TreeMeaning.Syntax.{Piece};
-ghost use Rattle.dt_live.specs.Placed.PlacedTrees.{IsPlacedTree, IsStanding, dtc_tree};
+ghost use Rattle.std.specs.Prelude.{◌≡◌, ◌<◌, ◌≤◌, All, IfOk, IfSome, OnOk, length};
+ghost use Rattle.dt_live.specs.Placed.Answers.{OfItsTree};
+ghost use Rattle.dt_live.specs.Placed.PlacedTrees.{IsPlacedTree, IsStanding};
 ghost use Rattle.dt_live.specs.Placed.References.{AreHolders, IsFirstLabelled, IsFirstOf, IsShallow};
 ghost use Rattle.dt_live.specs.Placed.Rows.{holds, is_there, place_at};
 ghost use Rattle.dt_live.specs.Placed.Shown.{AreNumbered, HasNodes};
+ghost use Rattle.dt_live.specs.Private.Placing.{ChoosesToo};
 ghost use Rattle.dt_live.specs.Placed.Tables.{rows_in};
 
 use crate::placed::place::{is_made, is_row_made};
@@ -47,7 +48,7 @@ impl<'d, V: Copy> PlacedTree<'d, V> {
     // The nodes that have a label, the one that got it last first.
     fn holders(&self, alloc: Global, label: &'d [u8]) -> Result<Vec<usize>, AllocError>
         requires sound { IsPlacedTree self.now }
-        ensures holders { IfOk result (λ nodes. (read : V → List Piece) → AreHolders label.now self.now (dtc_tree read self.now) nodes.items) }
+        ensures holders { IfOk result (λ nodes. OfItsTree self.now (λ t. AreHolders label.now self.now t nodes.items)) }
         ensures stand { IfOk result (λ nodes. All (IsStanding self.now) nodes.items) }
     {
         let mut holders = Vec::new(alloc);
@@ -65,7 +66,7 @@ impl<'d, V: Copy> PlacedTree<'d, V> {
     fn choose(&self, shown: &mut Shown<'d, usize>, node: usize) -> Result<(), AllocError>
         requires node { IsStanding self.now node }
         requires numbered { AreNumbered (rows_in self.now.nodes) (length (rows_in self.now.nodes)) shown.old }
-        ensures { OnOk result ((chosen : List ℕ) → HasNodes (rows_in self.now.nodes) chosen shown.old → HasNodes (rows_in self.now.nodes) (chosen ++ node ∷ []) shown.new) }
+        ensures { OnOk result (ChoosesToo (rows_in self.now.nodes) node shown.old shown.new) }
     {
         match shown.numbers[node] {
             Some(number) => {
@@ -123,7 +124,7 @@ impl<'d, V: Copy> PlacedTree<'d, V> {
     ) -> Result<Option<usize>, AllocError>
         requires sound { IsPlacedTree self.now }
         requires shallow { IsShallow self.now }
-        ensures node { IfOk result (λ found. (read : V → List Piece) → IsFirstLabelled label.now self.now (dtc_tree read self.now) found) }
+        ensures node { IfOk result (λ found. OfItsTree self.now (λ t. IsFirstLabelled label.now self.now t found)) }
         ensures there { IfOk result (λ found. IfSome found (IsStanding self.now)) }
     {
         if !self.begun {

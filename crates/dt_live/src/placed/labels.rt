@@ -1,8 +1,8 @@
 //! The labels of nodes.
-ghost use Rattle.std.specs.Prelude.{◌≡◌, ◌≤◌, ◌∷◌, [], List, OnOk, Some, if◌then◌else◌, length};
-ghost use Rattle.dt_source.specs.TreeMeaning.Syntax.{Piece};
+ghost use Rattle.std.specs.Prelude.{◌≡◌, ◌≤◌, ◌∷◌, [], OnOk, Some, if◌then◌else◌, length};
 ghost use Rattle.dt_source.specs.TreeMeaning.DtcEdits.{with_labels_at};
-ghost use Rattle.dt_live.specs.Placed.PlacedTrees.{IsPlacedTree, IsStanding, dtc_tree, node_path};
+ghost use Rattle.dt_live.specs.Placed.Answers.{IsEditedBy};
+ghost use Rattle.dt_live.specs.Placed.PlacedTrees.{IsPlacedTree, IsStanding, node_path};
 ghost use Rattle.dt_live.specs.Placed.PlacedEdits.{HasSameNodes};
 ghost use Rattle.dt_live.specs.Placed.Rows.{is_made};
 
@@ -31,7 +31,7 @@ impl<'d, V: Copy> PlacedTree<'d, V> {
         ensures sound { OnOk result (IsPlacedTree self.new) }
         ensures nodes { HasSameNodes self.old self.new }
         ensures begun { self.new.begun ≡ self.old.begun }
-        ensures tree { OnOk result ((read : V → List Piece) → dtc_tree read self.new ≡ with_labels_at (label.now ∷ []) (node_path self.old node) (dtc_tree read self.old)) }
+        ensures tree { OnOk result (IsEditedBy (with_labels_at (label.now ∷ []) (node_path self.old node)) self.old self.new) }
     {
         let made = self.clock;
         match self.labels.enter(node, label, Some(at), made)? {

@@ -18,7 +18,8 @@ impl<'d, V: Copy> PlacedTree<'d, V> {
         requires known { row < length (rows_in self.now.labels) }
         requires noted { AreNoted self.now row words.old }
         ensures noted { OnOk result (AreNoted self.now (row + 1) words.new) }
-        ensures refused { (at : ℕ) → IsErrOf result (StandError.DuplicateLabel at) → label_twice (worn_labels self.now) ≡ true }
+        ensures refused { (at : ℕ) → IsErrOf result (StandError.DuplicateLabel at)
+            → label_twice (worn_labels self.now) ≡ true }
     {
         if !self.is_worn(row) {
             return Ok(());
@@ -35,7 +36,8 @@ impl<'d, V: Copy> PlacedTree<'d, V> {
     pub(crate) fn check_labels(&self, alloc: Global, hasher: RandomState) -> Result<(), StandError>
         requires sound { IsPlacedTree self.now }
         ensures once { OnOk result (label_twice (worn_labels self.now) ≡ false) }
-        ensures refused { (at : ℕ) → IsErrOf result (StandError.DuplicateLabel at) → label_twice (worn_labels self.now) ≡ true }
+        ensures refused { (at : ℕ) → IsErrOf result (StandError.DuplicateLabel at)
+            → label_twice (worn_labels self.now) ≡ true }
     {
         let mut words = Index::new(alloc, hasher);
         for row in 0..self.labels.rows.len() {

@@ -1,7 +1,8 @@
 //! The labels of a tree that is shown.
-ghost use Rattle.std.specs.Prelude.{◌≡◌, [], All, ℕ, IsErrOf, OnOk, map, true};
+ghost use Rattle.std.specs.Prelude.{◌≡◌, [], All, OnOk, map, true};
 ghost use Rattle.dt_source.specs.TreeMeaning.DtcStatements.{label_twice};
 ghost use Rattle.dt_live.specs.Rows.{state_of};
+ghost use Rattle.dt_live.specs.Placed.Answers.{OnDuplicateLabel};
 ghost use Rattle.dt_live.specs.Placed.PlacedTrees.{IsPlacedTree};
 ghost use Rattle.dt_live.specs.Placed.Standing.{GivesLabel, HasNodesOf, IsWornRow, is_taken, label_of};
 
@@ -17,7 +18,7 @@ impl<'d, V: Copy> PlacedTree<'d, V> {
         requires shown { HasNodesOf self.now shown.old }
         ensures shown { OnOk result (HasNodesOf self.now shown.new) }
         ensures given { OnOk result (GivesLabel self.now row shown.old shown.new) }
-        ensures refused { (at : ℕ) → IsErrOf result (StandError.DuplicateLabel at) → is_taken self.now row (state_of shown.old.live).labels ≡ true }
+        ensures refused { OnDuplicateLabel result (is_taken self.now row (state_of shown.old.live).labels ≡ true) }
     {
         let label = self.labels.rows[row];
         match shown.live.labelled(label.name) {
@@ -45,7 +46,7 @@ impl<'d, V: Copy> PlacedTree<'d, V> {
         ensures shown { OnOk result (HasNodesOf self.now shown.new) }
         ensures labels { OnOk result ((state_of shown.new.live).labels ≡ map (label_of self.now) rows.now) }
         ensures properties { OnOk result ((state_of shown.new.live).properties ≡ (state_of shown.old.live).properties) }
-        ensures refused { (at : ℕ) → IsErrOf result (StandError.DuplicateLabel at) → label_twice (map (label_of self.now) rows.now) ≡ true }
+        ensures refused { OnDuplicateLabel result (label_twice (map (label_of self.now) rows.now) ≡ true) }
     {
         for row in rows {
             match self.show_word(shown, *row) {

@@ -1,9 +1,9 @@
 //! The root, the marks of `/omit-if-no-ref/`, and the fragments of a plugin.
-ghost use Rattle.std.specs.Prelude.{◌≡◌, ◌+◌, [], List, OnOk, false, true};
-ghost use Rattle.dt_source.specs.TreeMeaning.Syntax.{Piece};
+ghost use Rattle.std.specs.Prelude.{◌≡◌, [], OnOk, false, true};
 ghost use Rattle.dt_source.specs.TreeMeaning.DtcEdits.{node_has_place, with_mark};
 ghost use Rattle.dt_source.specs.TreeMeaning.DtcStatements.{with_root};
-ghost use Rattle.dt_live.specs.Placed.PlacedTrees.{IsPlacedTree, IsStanding, child_path, dtc_tree, node_path};
+ghost use Rattle.dt_live.specs.Placed.Answers.{IsEditedBy, OfItsTree};
+ghost use Rattle.dt_live.specs.Placed.PlacedTrees.{IsPlacedTree, IsStanding, child_path, node_path};
 ghost use Rattle.dt_live.specs.Placed.PlacedEdits.{HasSameNodes, counted_fragment};
 ghost use Rattle.dt_live.specs.Placed.Tables.{rows_in};
 
@@ -14,7 +14,7 @@ impl<'d, V: Copy> PlacedTree<'d, V> {
     /// Whether the root is there.
     pub fn is_begun(&self) -> bool
         ensures begun { result ≡ self.now.begun }
-        ensures tree { (read : V → List Piece) → result ≡ node_has_place [] (dtc_tree read self.now) }
+        ensures tree { OfItsTree self.now (λ t. result ≡ node_has_place [] t) }
     {
         self.begun
     }
@@ -26,7 +26,7 @@ impl<'d, V: Copy> PlacedTree<'d, V> {
         ensures sound { IsPlacedTree self.new }
         ensures nodes { HasSameNodes self.old self.new }
         ensures begun { self.new.begun ≡ true }
-        ensures tree { (read : V → List Piece) → dtc_tree read self.new ≡ with_root (dtc_tree read self.old) }
+        ensures tree { IsEditedBy with_root self.old self.new }
     {
         self.begun = true;
     }
@@ -35,7 +35,7 @@ impl<'d, V: Copy> PlacedTree<'d, V> {
     pub fn has_child(&self, parent: usize, name: &'d [u8]) -> bool
         requires sound { IsPlacedTree self.now }
         requires parent { IsStanding self.now parent }
-        ensures { (read : V → List Piece) → result ≡ node_has_place (child_path self.now parent name.now) (dtc_tree read self.now) }
+        ensures { OfItsTree self.now (λ t. result ≡ node_has_place (child_path self.now parent name.now) t) }
     {
         match self.nodes.find(parent, name) {
             Some(_) => true,
@@ -50,7 +50,7 @@ impl<'d, V: Copy> PlacedTree<'d, V> {
         ensures sound { OnOk result (IsPlacedTree self.new) }
         ensures nodes { HasSameNodes self.old self.new }
         ensures begun { self.new.begun ≡ self.old.begun }
-        ensures tree { OnOk result ((read : V → List Piece) → dtc_tree read self.new ≡ with_mark true (node_path self.old node) (dtc_tree read self.old)) }
+        ensures tree { OnOk result (IsEditedBy (with_mark true (node_path self.old node)) self.old self.new) }
     {
         self.marks.push(node)?;
         Ok(())
@@ -69,7 +69,7 @@ impl<'d, V: Copy> PlacedTree<'d, V> {
         ensures sound { OnOk result (IsPlacedTree self.new) }
         ensures nodes { HasSameNodes self.old self.new }
         ensures begun { self.new.begun ≡ self.old.begun }
-        ensures tree { OnOk result ((read : V → List Piece) → dtc_tree read self.new ≡ counted_fragment (dtc_tree read self.old)) }
+        ensures tree { OnOk result (IsEditedBy counted_fragment self.old self.new) }
     {
         match self.fragments.checked_add(1) {
             Some(fragments) => {

@@ -1,10 +1,10 @@
 //! The nodes of the tree.
-ghost use Rattle.std.specs.Prelude.{◌≡◌, ◌<◌, ◌≤◌, List, OnOk, IfOk, Ok, not, true, false};
-ghost use Rattle.dt_source.specs.TreeMeaning.Syntax.{Piece};
+ghost use Rattle.std.specs.Prelude.{◌≡◌, ◌<◌, ◌≤◌, OnOk, IfOk, Ok, true, false};
 ghost use Rattle.dt_source.specs.TreeMeaning.DtcEdits.{made_node, unmade_node, without_all_within};
 ghost use Rattle.dt_source.specs.TreeMeaning.DtcStatements.{is_first};
-ghost use Rattle.dt_live.specs.Placed.PlacedTrees.{IsPlacedTree, IsStanding, child_path, dtc_tree, node_path};
-ghost use Rattle.dt_live.specs.Placed.PlacedEdits.{Grows, IsFresh, IsMade, Keeps, Shows};
+ghost use Rattle.dt_live.specs.Placed.Answers.{IsEditedBy, IsEditedWell, OfItsTree, ShowsEdit, made_later};
+ghost use Rattle.dt_live.specs.Placed.PlacedTrees.{IsPlacedTree, IsStanding, child_path, node_path};
+ghost use Rattle.dt_live.specs.Placed.PlacedEdits.{Grows, IsFresh, IsMade, Keeps};
 
 use crate::placed::error::PlaceError;
 use crate::placed::place::is_row_made;
@@ -32,7 +32,7 @@ impl<'d, V: Copy> PlacedTree<'d, V> {
         ensures grows { OnOk result (Grows self.old self.new) }
         ensures begun { self.new.begun ≡ self.old.begun }
         ensures keeps { OnOk result (Keeps parent self.old self.new) }
-        ensures tree { (read : V → List Piece) → Shows (made_node true (child_path self.old parent name.now) (dtc_tree read self.old)) (dtc_tree read self.new) result }
+        ensures tree { ShowsEdit (made_node true (child_path self.old parent name.now)) self.old self.new result }
     {
         let made = match self.clock.checked_add(1) {
             Some(made) => made,
@@ -67,8 +67,9 @@ impl<'d, V: Copy> PlacedTree<'d, V> {
         ensures fresh { IfOk result (λ x. x.begins ≡ true → IsFresh self.new x.node) }
         ensures begun { self.new.begun ≡ self.old.begun }
         ensures keeps { OnOk result (Keeps parent self.old self.new) }
-        ensures begins { (read : V → List Piece) → IfOk result (λ x. x.begins ≡ is_first false (child_path self.old parent name.now) (dtc_tree read self.old)) }
-        ensures tree { (read : V → List Piece) → Shows (made_node (is_first false (child_path self.old parent name.now) (dtc_tree read self.old)) (child_path self.old parent name.now) (dtc_tree read self.old)) (dtc_tree read self.new) result }
+        ensures begins { OfItsTree self.old
+            (λ t. IfOk result (λ x. x.begins ≡ is_first false (child_path self.old parent name.now) t)) }
+        ensures tree { ShowsEdit (made_later (child_path self.old parent name.now)) self.old self.new result }
     {
         let made = match self.clock.checked_add(1) {
             Some(made) => made,
@@ -113,7 +114,7 @@ impl<'d, V: Copy> PlacedTree<'d, V> {
         ensures grows { OnOk result (Grows self.old self.new) }
         ensures begun { self.new.begun ≡ self.old.begun }
         ensures keeps { OnOk result (Keeps parent self.old self.new) }
-        ensures tree { (read : V → List Piece) → Shows (unmade_node true (child_path self.old parent name.now) (dtc_tree read self.old)) (dtc_tree read self.new) result }
+        ensures tree { ShowsEdit (unmade_node true (child_path self.old parent name.now)) self.old self.new result }
     {
         match self.nodes.enter(parent, name, None, 0)? {
             Entry::New(_) => Ok(()),
@@ -134,7 +135,7 @@ impl<'d, V: Copy> PlacedTree<'d, V> {
         ensures sound { IsPlacedTree self.new }
         ensures begun { self.new.begun ≡ self.old.begun }
         ensures keeps { Keeps parent self.old self.new }
-        ensures tree { (read : V → List Piece) → unmade_node false (child_path self.old parent name.now) (dtc_tree read self.old) ≡ Ok (dtc_tree read self.new) }
+        ensures tree { IsEditedWell (unmade_node false (child_path self.old parent name.now)) self.old self.new }
     {
         if let Some(row) = self.nodes.find(parent, name) {
             let place = &mut self.nodes.rows[row];
@@ -151,7 +152,7 @@ impl<'d, V: Copy> PlacedTree<'d, V> {
         requires node { IsStanding self.old node }
         ensures sound { IsPlacedTree self.new }
         ensures begun { self.new.begun ≡ self.old.begun }
-        ensures tree { (read : V → List Piece) → dtc_tree read self.new ≡ without_all_within (node_path self.old node) (dtc_tree read self.old) }
+        ensures tree { IsEditedBy (without_all_within (node_path self.old node)) self.old self.new }
     {
         self.nodes.rows[node - 1].removed = true;
     }

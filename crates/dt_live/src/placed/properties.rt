@@ -1,9 +1,9 @@
 //! The properties of nodes.
-ghost use Rattle.std.specs.Prelude.{◌≡◌, List, OnOk, true, false};
-ghost use Rattle.dt_source.specs.TreeMeaning.Syntax.{Piece};
+ghost use Rattle.std.specs.Prelude.{◌≡◌, OnOk, true, false};
 ghost use Rattle.dt_source.specs.TreeMeaning.DtcEdits.{made_property, unmade_property};
-ghost use Rattle.dt_live.specs.Placed.PlacedTrees.{IsPlacedTree, IsStanding, dtc_tree, node_path};
-ghost use Rattle.dt_live.specs.Placed.PlacedEdits.{HasSameNodes, Shows};
+ghost use Rattle.dt_live.specs.Placed.Answers.{IsEditedBy, ShowsValue};
+ghost use Rattle.dt_live.specs.Placed.PlacedTrees.{IsPlacedTree, IsStanding, node_path};
+ghost use Rattle.dt_live.specs.Placed.PlacedEdits.{HasSameNodes};
 
 use crate::placed::error::PlaceError;
 use crate::placed::place::is_made;
@@ -20,7 +20,7 @@ impl<'d, V: Copy> PlacedTree<'d, V> {
         ensures sound { OnOk result (IsPlacedTree self.new) }
         ensures nodes { HasSameNodes self.old self.new }
         ensures begun { self.new.begun ≡ self.old.begun }
-        ensures tree { (read : V → List Piece) → Shows (made_property true (node_path self.old node) name.now (read value) (dtc_tree read self.old)) (dtc_tree read self.new) result }
+        ensures tree { ShowsValue (made_property true (node_path self.old node) name.now) value self.old self.new result }
     {
         let made = self.clock;
         match self.properties.enter(node, name, Some(value), made)? {
@@ -42,7 +42,7 @@ impl<'d, V: Copy> PlacedTree<'d, V> {
         ensures sound { OnOk result (IsPlacedTree self.new) }
         ensures nodes { HasSameNodes self.old self.new }
         ensures begun { self.new.begun ≡ self.old.begun }
-        ensures tree { (read : V → List Piece) → Shows (made_property false (node_path self.old node) name.now (read value) (dtc_tree read self.old)) (dtc_tree read self.new) result }
+        ensures tree { ShowsValue (made_property false (node_path self.old node) name.now) value self.old self.new result }
     {
         let made = self.clock;
         match self.properties.enter(node, name, Some(value), made)? {
@@ -67,7 +67,7 @@ impl<'d, V: Copy> PlacedTree<'d, V> {
         ensures sound { OnOk result (IsPlacedTree self.new) }
         ensures nodes { HasSameNodes self.old self.new }
         ensures begun { self.new.begun ≡ self.old.begun }
-        ensures tree { OnOk result ((read : V → List Piece) → dtc_tree read self.new ≡ unmade_property true (node_path self.old node) name.now (dtc_tree read self.old)) }
+        ensures tree { OnOk result (IsEditedBy (unmade_property true (node_path self.old node) name.now) self.old self.new) }
     {
         self.properties.enter(node, name, None, 0)?;
         Ok(())
@@ -80,7 +80,7 @@ impl<'d, V: Copy> PlacedTree<'d, V> {
         ensures sound { IsPlacedTree self.new }
         ensures nodes { HasSameNodes self.old self.new }
         ensures begun { self.new.begun ≡ self.old.begun }
-        ensures tree { (read : V → List Piece) → dtc_tree read self.new ≡ unmade_property false (node_path self.old node) name.now (dtc_tree read self.old) }
+        ensures tree { IsEditedBy (unmade_property false (node_path self.old node) name.now) self.old self.new }
     {
         if let Some(row) = self.properties.find(node, name) {
             let place = &mut self.properties.rows[row];

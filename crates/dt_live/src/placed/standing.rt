@@ -1,14 +1,14 @@
 //! What stands when all is read.
-ghost use Rattle.std.specs.Prelude.{◌≡◌, ◌+◌, ◌<◌, [], Bool, IfOk, ℕ, IsErrOf, OnOk, false, length, true};
+ghost use Rattle.std.specs.Prelude.{◌≡◌, ◌+◌, ◌<◌, [], IfOk, OnOk, false, length, true};
 ghost use Rattle.dt_source.specs.TreeMeaning.DtcEdits.{ever_labelled};
 ghost use Rattle.dt_source.specs.TreeMeaning.DtcStatements.{label_twice};
-ghost use Rattle.dt_source.specs.TreeMeaning.Paths.{Path, is_listed};
-ghost use Rattle.dt_source.specs.TreeMeaning.Syntax.{Piece};
-ghost use Rattle.std.specs.Prelude.{List};
+ghost use Rattle.dt_source.specs.TreeMeaning.Paths.{is_listed};
 ghost use Rattle.dt_live.specs.Rows.{state_of};
 ghost use Rattle.dt_live.specs.Placed.AllRead.{ShowsTree};
-ghost use Rattle.dt_live.specs.Placed.PlacedTrees.{IsOwner, IsPlacedTree, dtc_tree, node_path};
-ghost use Rattle.dt_live.specs.Placed.Standing.{AreMarked, HasNodesOf, HasProperties, or_at, shown_labels, worn_labels};
+ghost use Rattle.dt_live.specs.Placed.Answers.{OfItsTree, OnDuplicateLabel};
+ghost use Rattle.dt_live.specs.Placed.PlacedTrees.{IsOwner, IsPlacedTree, node_path};
+ghost use Rattle.dt_live.specs.Placed.Standing.{AreMarked, HasNodesOf, HasProperties, shown_labels, worn_labels};
+ghost use Rattle.dt_live.specs.Private.Placing.{MarksToo};
 ghost use Rattle.dt_live.specs.Placed.Tables.{found_in, rows_in};
 
 use crate::placed::error::StandError;
@@ -64,7 +64,7 @@ impl<'d, V: Copy> PlacedTree<'d, V> {
         ensures shown { OnOk result (HasNodesOf self.now shown.new) }
         ensures labels { OnOk result ((state_of shown.new.live).labels ≡ shown_labels self.now) }
         ensures properties { OnOk result ((state_of shown.new.live).properties ≡ (state_of shown.old.live).properties) }
-        ensures refused { (at : ℕ) → IsErrOf result (StandError.DuplicateLabel at) → label_twice (worn_labels self.now) ≡ true }
+        ensures refused { OnDuplicateLabel result (label_twice (worn_labels self.now) ≡ true) }
     {
         if !self.begun {
             return Ok(());
@@ -80,7 +80,7 @@ impl<'d, V: Copy> PlacedTree<'d, V> {
         ensures once { OnOk result (label_twice (worn_labels self.now) ≡ false) }
         ensures shown { IfOk result (HasNodesOf self.now) }
         ensures tree { IfOk result (ShowsTree self.now) }
-        ensures refused { (at : ℕ) → IsErrOf result (StandError.DuplicateLabel at) → label_twice (worn_labels self.now) ≡ true }
+        ensures refused { OnDuplicateLabel result (label_twice (worn_labels self.now) ≡ true) }
     {
         let mut shown: Shown<'d, V> = show_nodes(alloc, hasher, &self.nodes)?;
         self.show_properties(&mut shown)?;
@@ -96,7 +96,7 @@ impl<'d, V: Copy> PlacedTree<'d, V> {
         requires shown { HasNodesOf self.now shown.now }
         requires count { length marked.old.items ≡ length shown.now.live.nodes.items + 1 }
         ensures count { length marked.new.items ≡ length marked.old.items }
-        ensures marks { (test : Path → Bool) → AreMarked test shown.now.live marked.old.items → AreMarked (or_at (node_path self.now node) test) shown.now.live marked.new.items }
+        ensures marks { MarksToo (node_path self.now node) shown.now.live marked.old.items marked.new.items }
     {
         match shown.numbers[node] {
             Some(number) => marked[number] = true,
@@ -108,7 +108,8 @@ impl<'d, V: Copy> PlacedTree<'d, V> {
     pub fn marked(&self, alloc: Global, shown: &Shown<'d, V>) -> Result<Vec<bool>, AllocError>
         requires sound { IsPlacedTree self.now }
         requires shown { HasNodesOf self.now shown.now }
-        ensures { IfOk result (λ marked. (read : V → List Piece) → AreMarked (λ p. is_listed p (dtc_tree read self.now).marked) shown.now.live marked.items) }
+        ensures { IfOk result (λ marked. OfItsTree self.now
+            (λ t. AreMarked (λ p. is_listed p t.marked) shown.now.live marked.items)) }
     {
         let mut marked = vec![in alloc; false; shown.live.nodes().len() + 1]?;
         for node in self.marks.as_slice() {
@@ -125,7 +126,8 @@ impl<'d, V: Copy> PlacedTree<'d, V> {
     ) -> Result<Vec<bool>, AllocError>
         requires sound { IsPlacedTree self.now }
         requires shown { HasNodesOf self.now shown.now }
-        ensures { IfOk result (λ labelled. (read : V → List Piece) → AreMarked (ever_labelled (dtc_tree read self.now)) shown.now.live labelled.items) }
+        ensures { IfOk result (λ labelled. OfItsTree self.now
+            (λ t. AreMarked (ever_labelled t) shown.now.live labelled.items)) }
     {
         let mut labelled = vec![in alloc; false; shown.live.nodes().len() + 1]?;
         for row in 0..self.labels.rows.len() {

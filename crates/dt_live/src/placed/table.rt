@@ -1,8 +1,7 @@
 //! A table of rows by the node that has them and a name.
-ghost use Rattle.std.specs.Prelude.{◌≡◌, ◌<◌, ◌∷◌, ◌++◌, [], IfOk, None, Some, OnOk, false, length, slice_set, true};
-ghost use Rattle.dt_live.specs.Index.{SetsRow};
-ghost use Rattle.dt_live.specs.Placed.Rows.{place_at};
-ghost use Rattle.dt_live.specs.Placed.Tables.{Enters, IsTable, found_in, hidden, rows_in};
+ghost use Rattle.std.specs.Prelude.{◌≡◌, ◌<◌, [], IfOk, None, Some, OnOk, false, length, true};
+ghost use Rattle.dt_live.specs.Private.Placing.{LastCountsFor, first_place, renewed};
+ghost use Rattle.dt_live.specs.Placed.Tables.{Enters, IsTable, found_in, rows_in};
 
 use crate::Index;
 use crate::placed::place::Place;
@@ -49,7 +48,7 @@ impl<'d, X: Copy> Table<'d, X> {
         value: Option<X>,
         made: usize,
     ) -> Result<Entry, AllocError>
-        ensures { IfOk result (Enters (record { owner = owner; name = name.entry; value = value; made = made; removed = false; again = false }) self.old self.new) }
+        ensures { IfOk result (Enters (first_place owner name.entry value made) self.old self.new) }
     {
         self.rows.reserve(1)?;
         let row = self.rows.len();
@@ -79,8 +78,8 @@ impl<'d, X: Copy> Table<'d, X> {
     ) -> Result<usize, AllocError>
         requires { row < length (rows_in self.old) }
         ensures row { IfOk result (λ i. i ≡ length (rows_in self.old)) }
-        ensures rows { OnOk result (rows_in self.new ≡ slice_set (rows_in self.old) row (hidden (place_at (rows_in self.old) row)) ++ (record (place_at (rows_in self.old) row) { value = value; made = made; removed = false; again = true }) ∷ []) }
-        ensures index { OnOk result (SetsRow (place_at (rows_in self.old) row).owner (place_at (rows_in self.old) row).name.now (Some (length (rows_in self.old))) self.old.index self.new.index) }
+        ensures rows { OnOk result (rows_in self.new ≡ renewed (rows_in self.old) row value made) }
+        ensures index { OnOk result (LastCountsFor row self.old self.new) }
     {
         self.rows.reserve(1)?;
         let number = self.rows.len();

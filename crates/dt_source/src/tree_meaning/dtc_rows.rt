@@ -10,7 +10,8 @@ ghost use Rattle.dt_source.specs.TreeMeaning.DtcRows as row;
 pub fn worked_rows_of_dtc()
     ensures made_again { says false row.made_again ≡ Ok row.made_again_says }
     ensures place_before_it_is_made { says false row.place_before_it_is_made ≡ Ok row.place_before_it_is_made_says }
-    ensures first_body_unmakes_nothing { says false row.first_body_unmakes_nothing ≡ Ok row.first_body_unmakes_nothing_says }
+    ensures first_body_unmakes_nothing { says false row.first_body_unmakes_nothing
+        ≡ Ok row.first_body_unmakes_nothing_says }
     ensures hidden_property { says false row.hidden_property ≡ Ok row.hidden_property_says }
     ensures hidden_node { says false row.hidden_node ≡ Ok row.hidden_node_says }
     ensures hidden_node_again { says false row.hidden_node_again ≡ Err DuplicateInBody }

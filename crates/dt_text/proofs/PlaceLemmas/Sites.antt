@@ -15,7 +15,7 @@ eqb_not m n h = go (eqb m n) refl
     go true e = absurd (h (eqb-true m n e))
     go false e = e
 
-eqb_is : (m n : ℕ) → m ≡ n → eqb m n ≡ true
+pub eqb_is : (m n : ℕ) → m ≡ n → eqb m n ≡ true
 eqb_is m n e = search (rules, e)
 
 pub small_more : (n c : ℕ) → (is_digit c && nat_lt n 100000000) ≡ true → n * 10 + (c - 48) < 1000000000
@@ -74,7 +74,7 @@ range_more s a i le lt =
 range_none : (s : List ℕ) (a : ℕ) → slice_range s a a ≡ []
 range_none s a = let e : a - a ≡ 0 = omega arith in ap (λ n. take n (drop a s)) e
 
-length_range : (s : List ℕ) (a i : ℕ) → a ≤ i → i ≤ length s → length (slice_range s a i) ≡ i - a
+pub length_range : (s : List ℕ) (a i : ℕ) → a ≤ i → i ≤ length s → length (slice_range s a i) ≡ i - a
 length_range s a i le within = length-take (i - a) (drop a s) ∙ (omega (arith, length-drop a s))
 
 -- behind a line feed

@@ -1,6 +1,6 @@
 -- Files and lines of a text that the C preprocessor made (GNU C preprocessor, "Preprocessor output"): a line marker
 -- `# 12 "board.dtsi" 1` says from which file and line the line behind it came.
-use Rattle.std.specs.Prelude.{ℕ, ◌+◌, ◌-◌, ◌*◌, ◌==◌, ◌≤◌, ◌≡◌, nat_lt, Bool, false, ◌&&◌, List, [], ◌∷◌, ◌++◌, length, take, drop, slice_range, position, Option, Some, None, option_map, if◌then◌else◌}
+use Rattle.std.specs.Prelude.{ℕ, ◌+◌, ◌-◌, ◌*◌, ◌==◌, ◌≤◌, ◌≡◌, ◌<◌, nat_lt, Bool, false, ◌&&◌, List, [], ◌∷◌, ◌++◌, length, take, drop, slice_index, slice_range, position, Option, Some, None, option_map, if◌then◌else◌}
 use Rattle.dt_text.specs.Lexeme.Bytes.{is_digit}
 use Rattle.dt_text.specs.Lexeme.Gaps.{begins_digit}
 use Rattle.dt_text.specs.declared.place.marker.Origin.{Origin}
@@ -84,3 +84,13 @@ IsRead text line start end =
 abbrev pub IsCursor : List ℕ → Origin → ℕ → ℕ → Type 0
 IsCursor text origin start end =
     (start ≤ end) × (end ≤ length text) × (origin.line ≤ 1000000000 + start) × IsRead text (line_of origin) start end
+
+-- no line feed stands from the one place up to the other
+abbrev pub HasNoFeed : List ℕ → ℕ → ℕ → Type 0
+HasNoFeed text start end = (place : ℕ) → start ≤ place → place < end → slice_index text place ≡ 10 → ⊥
+
+-- the first line feed between two places stands there, or there is none
+abbrev pub IsFirstFeed : List ℕ → ℕ → ℕ → Option ℕ → Type 0
+IsFirstFeed text start end None = HasNoFeed text start end
+IsFirstFeed text start end (Some feed) =
+    (start ≤ feed) × (feed < end) × (slice_index text feed ≡ 10) × HasNoFeed text start feed

@@ -70,7 +70,8 @@ pub fn element(width: Width, place: u32, value: Result<u64, Fault>) -> Result<u6
 
 /// Puts the low bytes of a number behind those that are there, the highest first.
 pub fn push_low_bytes(bytes: &mut Vec<u8>, width: Width, number: u64) -> Result<(), AllocError>
-    ensures { bytes.new.items ≡ (if is_ok result then bytes.old.items ++ low_bytes (bytes_in width) number else bytes.old.items) }
+    ensures { bytes.new.items ≡ (if is_ok result
+        then bytes.old.items ++ low_bytes (bytes_in width) number else bytes.old.items) }
 {
     match width {
         Width::Eight => bytes.extend_from_slice(&((number % 0x100) as u8).to_be_bytes()),

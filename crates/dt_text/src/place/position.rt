@@ -1,8 +1,9 @@
 //! The file, line and column that a byte came from.
 ghost use Rattle.std.specs.Prelude.{◌≡◌, ◌≤◌, length, map, IfOk};
-ghost use Rattle.dt_text.specs.Place.Positions.{IsCursor, site_at, site_of};
+ghost use Rattle.dt_text.specs.Place.Positions.{IsCursor, IsFirstFeed, site_at, site_of};
 
 use crate::place::marker::{Origin, front};
+use memchr::memchr;
 use std::alloc::{AllocError, Global};
 
 /// A file, none where no marker named one, its line from 1, and a byte of that from 1.
@@ -37,7 +38,18 @@ fn beginning<'a>(text: &'a [u8]) -> Cursor<'a>
     }
 }
 
-// Reads on up to a place.
+// Where the first line feed between two places stands.
+fn feed_between(text: &[u8], from: usize, end: usize) -> Option<usize>
+    requires within { (from ≤ end) × (end ≤ length text.now) }
+    ensures { IsFirstFeed text.now from end result }
+{
+    match memchr(b'\n', &text[from..end]) {
+        Some(feed) => Some(from + feed),
+        None => None,
+    }
+}
+
+// Reads on up to a place, line by line.
 fn read_to<'a>(text: &'a [u8], cursor: Cursor<'a>, end: usize) -> Cursor<'a>
     requires read { IsCursor text.now cursor.origin cursor.start cursor.end }
     requires ahead { cursor.end ≤ end }
@@ -48,14 +60,12 @@ fn read_to<'a>(text: &'a [u8], cursor: Cursor<'a>, end: usize) -> Cursor<'a>
     let Cursor {
         mut origin,
         mut start,
-        end: begin,
+        end: mut read,
     } = cursor;
-    for i in begin..end {
-        let byte = text[i];
-        if byte == b'\n' {
-            origin = origin.after(&text[start..i]);
-            start = i + 1;
-        }
+    while let Some(feed) = feed_between(text, read, end) {
+        origin = origin.after(&text[start..feed]);
+        read = feed + 1;
+        start = read;
     }
     Cursor { origin, start, end }
 }

@@ -1,25 +1,12 @@
 //! One change of the node at a path. Nothing else of the node above it changes.
-ghost use Rattle.std.specs.Prelude.{◌≡◌, ◌≤◌, ◌∷◌, ◌++◌, List, [], IfOk, OnOk, OnErr, MatchResult, None, not};
+ghost use Rattle.std.specs.Prelude.{◌≡◌, ◌≤◌, ◌∷◌, IfOk, OnOk, OnErr, None};
 ghost use Rattle.std.specs.List.{slice_split};
 ghost use Rattle.dt_tree.specs.declared.node.changing.Edit.TheVariants.{AddChild};
 ghost use Rattle.dt_tree.specs.NodeData.{child_names, property_names, siblings, height_of};
 ghost use Rattle.dt_tree.specs.Path.{is_slash};
 ghost use Rattle.dt_tree.specs.Sound.{is_among};
-ghost use Rattle.dt_tree.specs.Private.Edits.{
-  IsWhy,
-  change_at,
-  drop_child,
-  drop_property,
-  edit_fault,
-  edited,
-  fault_at,
-  names_in,
-  place_of,
-  push_child,
-  put_property,
-  there_at,
-  was_there,
-};
+ghost use Rattle.dt_tree.specs.Private.Answered.{AnswersAt, AnswersHere};
+ghost use Rattle.dt_tree.specs.Private.Edits.{change_at, drop_child, drop_property, edited, names_in, place_of, push_child, put_property};
 
 use crate::error::TreeError;
 use crate::limits::MAX_DEPTH;
@@ -134,7 +121,7 @@ impl Node {
         ensures changed { OnOk result (self.new ≡ edited (AddChild alloc name) self.old) }
         ensures kept { OnErr result (self.new ≡ self.old) }
         ensures low { height_of self.new.children ≤ room }
-        ensures answer { MatchResult result (λ there. (edit_fault (AddChild alloc name) room self.old ≡ None) × (there ≡ was_there (AddChild alloc name) self.old)) (λ e. IsWhy (AddChild alloc name) (edit_fault (AddChild alloc name) room self.old) e) }
+        ensures answer { AnswersHere (AddChild alloc name) room self.old result }
     {
         match place_of_child(self.children.as_slice(), name.as_bytes()) {
             Some(_) => Err(TreeError::DuplicateNode),
@@ -156,7 +143,7 @@ impl Node {
         ensures changed { OnOk result (self.new ≡ edited edit.entry self.old) }
         ensures kept { OnErr result (self.new ≡ self.old) }
         ensures low { height_of self.new.children ≤ room }
-        ensures answer { MatchResult result (λ there. (edit_fault edit.entry room self.old ≡ None) × (there ≡ was_there edit.entry self.old)) (λ e. IsWhy edit.entry (edit_fault edit.entry room self.old) e) }
+        ensures answer { AnswersHere edit.entry room self.old result }
     {
         match edit {
             Edit::SetProperty(property) => {
@@ -182,7 +169,7 @@ impl Node {
         ensures kept { OnErr result (self.new ≡ self.old) }
         ensures low { height_of self.new.children ≤ room }
         ensures name { self.new.name ≡ self.old.name }
-        ensures answer { MatchResult result (λ there. (fault_at (names_in names.entry) edit.entry room self.old ≡ None) × (there ≡ there_at (names_in names.entry) edit.entry self.old)) (λ e. IsWhy edit.entry (fault_at (names_in names.entry) edit.entry room self.old) e) }
+        ensures answer { AnswersAt (names_in names.entry) edit.entry room self.old result }
     {
         match names {
             None => self.edit_here(room, edit),

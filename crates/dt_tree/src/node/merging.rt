@@ -1,18 +1,12 @@
 //! One node merged into another, or into the node at a path. Both are only read: what is made is new.
-ghost use Rattle.std.specs.Prelude.{◌≡◌, ◌<◌, ◌≤◌, ◌∷◌, ◌++◌, [], List, ℕ, IfOk, OnOk, MatchResult, None, length, option_copied, set, true, unwrap_or};
-ghost use Rattle.dt_tree.specs.Changes.{IsRefusal};
-ghost use Rattle.dt_tree.specs.NodeData.{child_names, height_of, node_data, property_names, siblings};
+ghost use Rattle.std.specs.Prelude.{◌≡◌, ◌<◌, ◌≤◌, ◌++◌, [], List, ℕ, IfOk, OnOk, None, length, option_copied, set, true, unwrap_or};
+ghost use Rattle.dt_tree.specs.Answers.{IsRefusedBy};
+ghost use Rattle.dt_tree.specs.NodeData.{child_names, height_of, property_names, siblings};
 ghost use Rattle.dt_tree.specs.PathMap.{child_named, value_of};
 ghost use Rattle.dt_tree.specs.Sound.{IsSound, are_distinct};
+ghost use Rattle.dt_tree.specs.Private.Answered.{merged_over};
 ghost use Rattle.dt_tree.specs.Private.Edits.{change_at, names_in};
-ghost use Rattle.dt_tree.specs.Private.Merging.{
-  merge_refusal,
-  merged,
-  merged_properties,
-  named,
-  new_nodes,
-  new_properties,
-};
+ghost use Rattle.dt_tree.specs.Private.Merging.{merge_refusal, merged, merged_properties, named, new_nodes, new_properties};
 
 use crate::bytes::Bytes;
 use crate::error::TreeError;
@@ -183,8 +177,8 @@ impl Node {
         other: &Node,
         children: Vec<Node>,
     ) -> Result<Node, AllocError>
-        requires { IsSound (node_data self.now.name (merged_properties self.now.properties other.now.properties) (siblings children.items)) }
-        ensures { IfOk result (λ node. node ≡ node_data self.now.name (merged_properties self.now.properties other.now.properties) (siblings children.items)) }
+        requires { IsSound (merged_over self.now other.now (siblings children.items)) }
+        ensures { IfOk result (λ node. node ≡ merged_over self.now other.now (siblings children.items)) }
     {
         self.check();
         other.check();
@@ -206,7 +200,7 @@ impl Node {
         requires low { height_of self.now.children ≤ room }
         ensures merged { IfOk result (λ node. node ≡ merged self.now other.now) }
         ensures low { IfOk result (λ node. height_of node.children ≤ room) }
-        ensures fault { MatchResult result (λ _. merge_refusal [] room other.now self.now ≡ None) (λ e. IsRefusal (merge_refusal [] room other.now self.now) e) }
+        ensures fault { IsRefusedBy (merge_refusal [] room other.now self.now) result }
     {
         if other.height() > room {
             return Err(TreeError::TooDeep);
@@ -224,9 +218,9 @@ impl Node {
     ) -> Result<Node, TreeError>
         requires low { height_of self.now.children ≤ room }
         requires bound { room ≤ MAX_DEPTH }
-        ensures merged { IfOk result (λ node. node ≡ change_at (names_in names.entry) (λ there. merged there other.now) self.now) }
+        ensures merged { IfOk result (λ node. node ≡ change_at (names_in names.entry) (λ n. merged n other.now) self.now) }
         ensures low { IfOk result (λ node. height_of node.children ≤ room) }
-        ensures fault { MatchResult result (λ _. merge_refusal (names_in names.entry) room other.now self.now ≡ None) (λ e. IsRefusal (merge_refusal (names_in names.entry) room other.now self.now) e) }
+        ensures fault { IsRefusedBy (merge_refusal (names_in names.entry) room other.now self.now) result }
     {
         self.check();
         match names {

@@ -1,11 +1,12 @@
 //! The calls that change a tree. Each changes what it names, and a refused call leaves the tree as it was.
-ghost use Rattle.std.specs.Prelude.{◌≡◌, ◌++◌, ◌∷◌, [], None, Some, OnOk, OnErr, MatchResult};
-ghost use Rattle.dt_tree.specs.Changes.{IsRefusal, child_fault, path_fault, with_child, with_nodes, with_property, without_child, without_property};
+ghost use Rattle.std.specs.Prelude.{◌≡◌, OnOk, OnErr};
+ghost use Rattle.dt_tree.specs.Answers.{IsChangedBy, IsRefusedBy, TellsWhether, fault_of_path, has_child_at, has_property_at};
+ghost use Rattle.dt_tree.specs.Changes.{child_fault, with_child, with_property, without_child, without_property};
 ghost use Rattle.dt_tree.specs.Path.{path_names};
-ghost use Rattle.dt_tree.specs.PathMap.{is_listed, path_map, tree_map};
+ghost use Rattle.dt_tree.specs.PathMap.{path_map};
 ghost use Rattle.dt_tree.specs.Sound.{IsSound};
-ghost use Rattle.dt_tree.specs.TreeData.{tree_data};
-ghost use Rattle.dt_tree.specs.Private.Edits.{IsWhy, change_at, edited, fault_at, there_at};
+ghost use Rattle.dt_tree.specs.Private.Answered.{AnswersAt, with_root};
+ghost use Rattle.dt_tree.specs.Private.Edits.{change_at, edited};
 
 use crate::bytes::Bytes;
 use crate::error::TreeError;
@@ -21,9 +22,9 @@ impl Tree {
     /// Sets a property of the node at the path: in the place of the one of this name, or last.
     /// Fails with `NoSuchPath`, or with `NoMemory`.
     pub fn set_property(&mut self, path: &Path, name: Name, value: Bytes) -> Result<(), TreeError>
-        ensures set { OnOk result (tree_map self.new ≡ with_nodes (with_property (path_names path.now) name value) (tree_map self.old)) }
+        ensures set { OnOk result (IsChangedBy (with_property (path_names path.now) name value) self.old self.new) }
         ensures kept { OnErr result (self.new ≡ self.old) }
-        ensures fault { MatchResult result (λ _. path_fault (path_map self.old.root) (path_names path.now) ≡ None) (λ e. IsRefusal (path_fault (path_map self.old.root) (path_names path.now)) e) }
+        ensures fault { IsRefusedBy (fault_of_path self.old.root path.now) result }
     {
         self.edit(path, Edit::SetProperty(Property { name, value }))?;
         Ok(())
@@ -32,9 +33,10 @@ impl Tree {
     /// Takes a property from the node at the path, and answers whether it was there.
     /// Fails with `NoSuchPath`. Takes no memory.
     pub fn remove_property(&mut self, path: &Path, name: &Name) -> Result<bool, TreeError>
-        ensures removed { OnOk result (tree_map self.new ≡ with_nodes (without_property (path_names path.now) name.now) (tree_map self.old)) }
+        ensures removed { OnOk result (IsChangedBy (without_property (path_names path.now) name.now) self.old self.new) }
         ensures kept { OnErr result (self.new ≡ self.old) }
-        ensures answer { MatchResult result (λ there. (path_fault (path_map self.old.root) (path_names path.now) ≡ None) × (there ≡ is_listed name.now ((path_map self.old.root).properties (path_names path.now)))) (λ e. path_fault (path_map self.old.root) (path_names path.now) ≡ Some e) }
+        ensures answer { TellsWhether (fault_of_path self.old.root path.now)
+            (has_property_at self.old.root path.now name.now) result }
     {
         self.edit(path, Edit::RemoveProperty(name))
     }
@@ -42,9 +44,9 @@ impl Tree {
     /// Puts an empty child last in the node at the path. Fails with `NoSuchPath`, with `DuplicateNode`, with
     /// `TooDeep` at a path of 64 names, or with `NoMemory`.
     pub fn add_child(&mut self, alloc: Global, path: &Path, name: Name) -> Result<(), TreeError>
-        ensures added { OnOk result (tree_map self.new ≡ with_nodes (with_child (path_names path.now) name) (tree_map self.old)) }
+        ensures added { OnOk result (IsChangedBy (with_child (path_names path.now) name) self.old self.new) }
         ensures kept { OnErr result (self.new ≡ self.old) }
-        ensures fault { MatchResult result (λ _. child_fault (path_map self.old.root) (path_names path.now) name ≡ None) (λ e. IsRefusal (child_fault (path_map self.old.root) (path_names path.now) name) e) }
+        ensures fault { IsRefusedBy (child_fault (path_map self.old.root) (path_names path.now) name) result }
     {
         self.edit(path, Edit::AddChild(alloc, name))?;
         Ok(())
@@ -53,9 +55,10 @@ impl Tree {
     /// Takes a child and all below it from the node at the path, and answers whether it was there.
     /// Fails with `NoSuchPath`. Takes no memory.
     pub fn remove_child(&mut self, path: &Path, name: &Name) -> Result<bool, TreeError>
-        ensures removed { OnOk result (tree_map self.new ≡ with_nodes (without_child (path_names path.now) name.now) (tree_map self.old)) }
+        ensures removed { OnOk result (IsChangedBy (without_child (path_names path.now) name.now) self.old self.new) }
         ensures kept { OnErr result (self.new ≡ self.old) }
-        ensures answer { MatchResult result (λ there. (path_fault (path_map self.old.root) (path_names path.now) ≡ None) × (there ≡ is_listed name.now ((path_map self.old.root).children (path_names path.now)))) (λ e. path_fault (path_map self.old.root) (path_names path.now) ≡ Some e) }
+        ensures answer { TellsWhether (fault_of_path self.old.root path.now)
+            (has_child_at self.old.root path.now name.now) result }
     {
         self.edit(path, Edit::RemoveChild(name))
     }
@@ -63,9 +66,9 @@ impl Tree {
     /// Does the edit at the node at the path.
     fn edit(&mut self, path: &Path, edit: Edit<'_>) -> Result<bool, TreeError>
         ensures sound { IsSound self.old.root }
-        ensures changed { OnOk result (self.new ≡ tree_data self.old.reserves self.old.boot_cpu (change_at (path_names path.now) (edited edit.entry) self.old.root)) }
+        ensures changed { OnOk result (self.new ≡ with_root (change_at (path_names path.now) (edited edit.entry)) self.old) }
         ensures kept { OnErr result (self.new ≡ self.old) }
-        ensures answer { MatchResult result (λ there. (fault_at (path_names path.now) edit.entry MAX_DEPTH self.old.root ≡ None) × (there ≡ there_at (path_names path.now) edit.entry self.old.root)) (λ e. IsWhy edit.entry (fault_at (path_names path.now) edit.entry MAX_DEPTH self.old.root) e) }
+        ensures answer { AnswersAt (path_names path.now) edit.entry MAX_DEPTH self.old.root result }
     {
         self.root.check();
         let answer = self.root.edit_below(MAX_DEPTH, path.names_between(), edit);

@@ -1,9 +1,9 @@
 //! A node merged into a tree.
-ghost use Rattle.std.specs.Prelude.{◌≡◌, None, IfOk, MatchResult};
-ghost use Rattle.dt_tree.specs.Changes.{IsRefusal, with_nodes};
+ghost use Rattle.std.specs.Prelude.{IfOk};
+ghost use Rattle.dt_tree.specs.Answers.{IsChangedBy, IsRefusedBy};
 ghost use Rattle.dt_tree.specs.Merged.{merge_fault, with_merged};
 ghost use Rattle.dt_tree.specs.Path.{path_names};
-ghost use Rattle.dt_tree.specs.PathMap.{path_map, tree_map};
+ghost use Rattle.dt_tree.specs.PathMap.{path_map};
 
 use crate::error::TreeError;
 use crate::limits::MAX_DEPTH;
@@ -17,8 +17,8 @@ impl Tree {
     /// and takes the new value; what is new goes last. Fails with `NoSuchPath`, with `TooDeep` where a node would lie deeper than
     /// 64 levels, or with `NoMemory`.
     pub fn merge(&self, alloc: Global, path: &Path, node: &Node) -> Result<Tree, TreeError>
-        ensures merged { IfOk result (λ tree. tree_map tree ≡ with_nodes (with_merged (path_names path.now) node.now) (tree_map self.now)) }
-        ensures fault { MatchResult result (λ _. merge_fault (path_map self.now.root) (path_names path.now) node.now ≡ None) (λ e. IsRefusal (merge_fault (path_map self.now.root) (path_names path.now) node.now) e) }
+        ensures merged { IfOk result (λ tree. IsChangedBy (with_merged (path_names path.now) node.now) self.now tree) }
+        ensures fault { IsRefusedBy (merge_fault (path_map self.now.root) (path_names path.now) node.now) result }
     {
         self.root.check();
         let root = self

@@ -5,6 +5,7 @@ pub mod Left
 pub mod Listed
 pub mod Orders
 pub mod Rows
+pub mod Sights
 pub mod Tests
 pub mod Things
 pub mod Views

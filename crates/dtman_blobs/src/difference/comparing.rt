@@ -1,14 +1,13 @@
 //! Two trees compared, node by node.
-ghost use Rattle.std.specs.Prelude.{◌≡◌, ◌↔◌, ◌++◌, [], List, ℕ, true, false, option_copied, IfOk, IsTrue, OnOk};
-ghost use Rattle.dt_tree.specs.NodeData.{child_names, nodes_of};
+ghost use Rattle.std.specs.Prelude.{◌≡◌, ◌↔◌, ◌++◌, List, ℕ, false, option_copied, IfOk, IsTrue, OnOk};
 ghost use Rattle.dt_tree.specs.PathMap.{value_of};
 ghost use Rattle.dt_tree.specs.Private.Merging.{named};
 ghost use Rattle.dtman_blobs.specs.Difference.Named.{named_by};
 ghost use Rattle.dtman_blobs.specs.Difference.SameBoard.{IsSameBoard, is_own_phandle};
 ghost use Rattle.dtman_blobs.specs.Difference.Comparison.{is_same};
-ghost use Rattle.dtman_blobs.specs.Difference.Private.Differences.{node_differences, nodes_alone, own_differences, properties_alone};
+ghost use Rattle.dtman_blobs.specs.Difference.Private.Sights.{differences_between, named_in, nodes_of_one, own_between, properties_of_one, tree_differences, twice_copied};
+ghost use Rattle.dtman_blobs.specs.Difference.Private.Differences.{node_differences};
 ghost use Rattle.dtman_blobs.specs.Difference.Private.Tests.{is_same_value, is_alone};
-ghost use Rattle.dtman_blobs.specs.Difference.Private.Things.{is_first};
 
 use crate::difference::by_name::{nodes_by_name, values_by_name};
 use crate::difference::difference::{Difference, Side, Thing, tell};
@@ -39,7 +38,8 @@ fn is_same_value(
     property: &Property,
     other: Option<&&Bytes>,
 ) -> bool
-    ensures { result ≡ is_same_value (named_by naming.now) (named_by other_naming.now) property.now (option_copied (option_copied other.entry)) }
+    ensures { result ≡ is_same_value (named_by naming.now)
+        (named_by other_naming.now) property.now (twice_copied other.entry) }
 {
     let Some(other) = other else {
         return false;
@@ -59,7 +59,7 @@ fn is_alone(
     property: &Property,
 ) -> bool
     requires { (k : List ℕ) → option_copied (named their_values.now k) ≡ value_of theirs.now.node.now.properties k }
-    ensures { result ≡ is_alone (named_by ours.now.naming.now) (named_by theirs.now.naming.now) theirs.now.node.now.properties property.now }
+    ensures { result ≡ is_alone (named_in ours.now) (named_in theirs.now) theirs.now.node.now.properties property.now }
 {
     let name = property.name.as_bytes();
     if is_own_phandle(name) {
@@ -77,7 +77,7 @@ fn add_properties<'t>(
     theirs: &Sight<'_, 't>,
 ) -> Result<(), AllocError>
     ensures { OnOk result (differences.new.items ≡ differences.old.items
-        ++ properties_alone (is_first side) path.now (named_by ours.now.naming.now) (named_by theirs.now.naming.now) ours.now.node.now.properties theirs.now.node.now.properties) }
+        ++ properties_of_one side path.now ours.now theirs.now) }
 {
     theirs.node.check();
     let values = values_by_name(alloc, theirs.node.properties())?;
@@ -98,7 +98,7 @@ fn add_nodes<'t>(
     theirs: &'t Node,
 ) -> Result<(), AllocError>
     ensures { OnOk result (differences.new.items ≡ differences.old.items
-        ++ nodes_alone (is_first side) path.now (nodes_of ours.now.children) (child_names theirs.now.children)) }
+        ++ nodes_of_one side path.now ours.now theirs.now) }
 {
     theirs.check();
     let others = nodes_by_name(alloc, theirs.children())?;
@@ -119,7 +119,7 @@ fn add_own<'t>(
     second: &Sight<'_, 't>,
 ) -> Result<(), AllocError>
     ensures { OnOk result (differences.new.items ≡ differences.old.items
-        ++ own_differences (named_by first.now.naming.now) (named_by second.now.naming.now) path.now first.now.node.now second.now.node.now) }
+        ++ own_between path.now first.now second.now) }
 {
     add_properties(alloc, differences, Side::First, path, first, second)?;
     add_properties(alloc, differences, Side::Second, path, second, first)?;
@@ -150,7 +150,7 @@ fn add_node<'t>(
     second: &Sight<'_, 't>,
 ) -> Result<(), AllocError>
     ensures { OnOk result (differences.new.items ≡ differences.old.items
-        ++ node_differences (named_by first.now.naming.now) (named_by second.now.naming.now) path.now first.now.node.now second.now.node.now) }
+        ++ differences_between path.now first.now second.now) }
 {
     add_own(alloc, differences, path, first, second)?;
     second.node.check();
@@ -204,7 +204,7 @@ fn node_differences<'t>(
     first: &'t Tree,
     second: &'t Tree,
 ) -> Result<Vec<Difference<'t>>, AllocError>
-    ensures { IfOk result (λ differences. differences.items ≡ node_differences (named_by first.now.root) (named_by second.now.root) [] first.now.root second.now.root) }
+    ensures { IfOk result (λ differences. differences.items ≡ tree_differences first.now second.now) }
 {
     let naming = Naming::of(alloc, hasher, first)?;
     let second_naming = Naming::of(alloc, hasher, second)?;

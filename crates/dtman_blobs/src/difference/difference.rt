@@ -1,5 +1,6 @@
 //! What one of two trees has and the other hasn't.
 ghost use Rattle.std.specs.Prelude.{◌≡◌, ◌∷◌, ◌++◌, [], OnOk};
+ghost use Rattle.dtman_blobs.specs.Difference.Private.Sights.{told};
 ghost use Rattle.dtman_blobs.specs.Difference.Private.Things.{is_first, thing_data};
 
 use dt_tree::{Node, Property};
@@ -72,7 +73,7 @@ pub(crate) fn tell<'t>(
     path: &[u8],
     thing: Thing<'t>,
 ) -> Result<(), AllocError>
-    ensures { OnOk result (differences.new.items ≡ differences.old.items ++ record { is_first = is_first side; path = path.now; thing = thing_data thing.entry } ∷ []) }
+    ensures { OnOk result (differences.new.items ≡ differences.old.items ++ told side path.now thing.entry ∷ []) }
 {
     let path = Vec::from_slice(alloc, path)?;
     differences.push(Difference { side, path, thing })?;

@@ -2,9 +2,9 @@
 ghost use Rattle.std.specs.Prelude.{◌≡◌, ◌+◌, length, IfOk, OnOk};
 ghost use Rattle.std.specs.Cmp.Lexicographic.{pointwise};
 ghost use Rattle.std.specs.Str.{bytes_eq};
-ghost use Rattle.dt_tree.specs.NodeData.{child_names, nodes_of};
 ghost use Rattle.dtman_blobs.specs.Difference.SameOrder.{TellsOrder};
-ghost use Rattle.dtman_blobs.specs.Difference.Private.Orders.{moves, node_moves, own_moves, shared_nodes, shared_properties};
+ghost use Rattle.dtman_blobs.specs.Difference.Private.Orders.{node_moves, own_moves, shared_properties};
+ghost use Rattle.dtman_blobs.specs.Difference.Private.Sights.{moves_of, shared_children};
 ghost use Rattle.dtman_blobs.specs.Difference.Private.Views.{now_of};
 
 use crate::difference::by_name::{nodes_by_name, values_by_name};
@@ -59,7 +59,7 @@ fn shared_children<'t>(
     ours: &'t Node,
     theirs: &Node,
 ) -> Result<Vec<&'t [u8]>, AllocError>
-    ensures { IfOk result (λ names. now_of names.items ≡ shared_nodes (child_names theirs.now.children) (nodes_of ours.now.children)) }
+    ensures { IfOk result (λ names. now_of names.items ≡ shared_children theirs.now ours.now) }
 {
     theirs.check();
     let others = nodes_by_name(alloc, theirs.children())?;
@@ -87,7 +87,7 @@ fn tell_if_moved<'t>(
     first: Vec<&'t [u8]>,
     second: Vec<&'t [u8]>,
 ) -> Result<(), AllocError>
-    ensures { OnOk result (length found.new.items ≡ length found.old.items + moves (now_of first.entry.items) (now_of second.entry.items)) }
+    ensures { OnOk result (length found.new.items ≡ length found.old.items + moves_of first.entry second.entry) }
 {
     if are_same_names(first.as_slice(), second.as_slice()) {
         return Ok(());

@@ -1,10 +1,11 @@
 //! A property's value as it is seen: bytes, and the paths of nodes where phandles stand.
-ghost use Rattle.std.specs.Prelude.{◌≡◌, ◌<◌, ◌∷◌, ◌++◌, [], length, MatchOption, OnSome};
+ghost use Rattle.std.specs.Prelude.{◌≡◌, ◌<◌, [], length, OnSome};
 ghost use Rattle.std.specs.Option.{option_copied};
 ghost use Rattle.dtman_blobs.specs.Difference.Named.{named_by};
 ghost use Rattle.dtman_blobs.specs.Difference.Seen.{cells_behind, count_in, phandle_part, plain, seen};
 ghost use Rattle.dtman_blobs.specs.Difference.Private.Left.{seen_left};
 ghost use Rattle.dtman_blobs.specs.Difference.Private.Rows.{form_data};
+ghost use Rattle.dtman_blobs.specs.Difference.Private.Sights.{IsCellSplit, IsNextPart};
 ghost use Rattle.dtman_blobs.specs.Difference.Private.Tests.{same_part, same_parts};
 ghost use Rattle.dtman_blobs.specs.Difference.Private.Views.{part_data};
 
@@ -30,7 +31,7 @@ pub struct Seen<'a, 't> {
 
 // The first four bytes, and what is behind them.
 fn split_cell(bytes: &[u8]) -> Option<(&[u8], &[u8])>
-    ensures { MatchOption result (length bytes.now < 4) (λ split. (bytes.now ≡ split.0.now ++ split.1.now) × (length split.0.now ≡ 4)) }
+    ensures { IsCellSplit bytes.now result }
 {
     if bytes.len() < 4 {
         return None;
@@ -81,7 +82,7 @@ impl<'a, 't> Seen<'a, 't> {
 
     // All that is left, as it is.
     fn take_rest(&mut self) -> Option<Part<'a>>
-        ensures part { MatchOption result (plain self.old.rest.now ≡ []) (λ part. plain self.old.rest.now ≡ part_data part ∷ []) }
+        ensures part { IsNextPart (plain self.old.rest.now) [] result }
         ensures nothing { seen_left self.new ≡ [] }
         ensures fewer { OnSome result (length self.new.rest.now < length self.old.rest.now) }
     {
@@ -95,7 +96,7 @@ impl<'a, 't> Seen<'a, 't> {
 
     /// The next part.
     pub fn next_part(&mut self) -> Option<Part<'a>>
-        ensures part { MatchOption result (seen_left self.old ≡ []) (λ part. seen_left self.old ≡ part_data part ∷ seen_left self.new) }
+        ensures part { IsNextPart (seen_left self.old) (seen_left self.new) result }
         ensures fewer { OnSome result (length self.new.rest.now < length self.old.rest.now) }
     {
         let Some(form) = self.form else {

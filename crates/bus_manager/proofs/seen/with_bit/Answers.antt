@@ -1,4 +1,4 @@
-use Rattle.std.proofs.Common.{ℕ, Bool, eqb, sym, ap, ◌∙◌, eq-eqb}
+use Rattle.std.proofs.Common.{ℕ, eqb, sym, ap, ◌∙◌, eq-eqb}
 use Rattle.std.specs.Int.{w64}
 use Rattle.std.proofs.lemmas.Nat.Bits.{bit_at_clear_other, bit_at_clear_same, bit_at_set_other, bit_at_set_same}
 use Rattle.bus_manager.proofs.seen.with_bit.Goals as goal

@@ -1,5 +1,5 @@
 -- A walk from a device, one way, within the devices of its class: those that were found have its stamp.
-use Rattle.std.specs.Prelude.{◌≡◌, ◌⊎◌, ℕ, ◌+◌, ◌<◌, ◌≤◌, Bool, true, false, not, ◌||◌, ◌==◌, if◌then◌else◌, List, [], ◌∷◌, ◌++◌, length, take, slice_index, count_by}
+use Rattle.std.specs.Prelude.{◌≡◌, ◌⊎◌, ℕ, ◌<◌, true, not, ◌||◌, ◌==◌, if◌then◌else◌, List, [], ◌∷◌, ◌++◌, length, take, slice_index, count_by}
 use Rattle.bus_plan.specs.Plan.{PlannedDevice}
 use Rattle.bus_plan.specs.declared.reach.direction.Direction.{Direction}
 use Rattle.bus_plan.specs.Reach.Reached.{is_in, next, Follows}

@@ -1,4 +1,4 @@
-use Rattle.std.proofs.Common.{◌≡◌, ◌∙◌, ap, sym, List, ℕ, nat_le, true}
+use Rattle.std.proofs.Common.{◌∙◌, ap, sym, List, ℕ, nat_le}
 use Rattle.std.specs.List.{list_all}
 use Rattle.bus_plan.specs.Plan.{suppliers_of}
 use Rattle.bus_plan.specs.Reach.Private.Walk.{class_of}

@@ -1,22 +1,32 @@
-use Rattle.std.proofs.Common.{◌∙◌, arith, ap}
+use Rattle.std.proofs.Common.{◌<◌, ◌≤◌, ◌-◌, length, arith, refl}
 use Rattle.dt_text.specs.Place.Positions.{line_of}
-use Rattle.dt_text.proofs.PlaceLemmas.Sites.{read_byte, read_feed}
+use Rattle.dt_text.proofs.PlaceLemmas.Feeds.{read_line, read_run}
 use Rattle.dt_text.proofs.place.position.read_to.Goals as goal
-use Rattle.dt_text.proofs.place.position.read_to.Goals.{then-byte-eq10, else-byte-eq10}
 
-pub loop-i-preserved : goal.loop-i-preserved
-loop-i-preserved c =
-    elim c.if-byte-eq10.branch [
-      | then-byte-eq10 w ↦ (
-        omega (arith, w.start-is),
+pub feed_between-requires : goal.feed_between-requires
+feed_between-requires c = record { within = (c.loop-feed.invariant.within, c.requires.within) }
+
+pub loop-feed-preserved : goal.loop-feed-preserved
+loop-feed-preserved c =
+    let inv = c.loop-feed.invariant.read in
+    let found = c.in-Some.ensures in
+    let less : c.in-Some.feed < length c.args.text.now = omega (arith, found.1, c.requires.within) in
+    record {
+      read = (
         omega arith,
-        omega (arith, w.start-is, w.after-origin.ensures.near, ap (λ o. o.line) w.origin-is),
-        read_feed _ (line_of c.loop-i.origin) _ c.loop-i.start c.loop-i.i _ c.loop-i.invariant.0 (omega arith) w.if-byte-eq10.true (ap line_of w.origin-is ∙ w.after-origin.ensures.line) w.start-is c.loop-i.invariant.3,
-      )
-      | else-byte-eq10 w ↦ (
-        omega (arith, w.start-is),
-        omega arith,
-        omega (arith, w.start-is, ap (λ o. o.line) w.origin-is),
-        read_byte _ (line_of c.loop-i.origin) _ c.loop-i.start c.loop-i.i _ c.loop-i.invariant.0 (omega arith) w.if-byte-eq10.false (ap line_of w.origin-is) w.start-is c.loop-i.invariant.3,
-      )
-    ]
+        omega (arith, less),
+        omega (arith, inv.0, inv.2, found.0, c.after-origin.ensures.near),
+        read_line _ (line_of c.loop-feed.origin) _ c.loop-feed.start c.loop-feed.read c.in-Some.feed _ _ inv.0 found.0 less found.3 found.2 c.after-origin.ensures.line refl refl inv.3,
+      );
+      within = omega (arith, found.1);
+    }
+
+pub returns-clause-read : goal.returns-clause-read
+returns-clause-read c =
+    let inv = c.loop-feed.invariant.read in
+    let up : c.loop-feed.read ≤ c.args.end = c.loop-feed.invariant.within in (
+      omega (arith, inv.0, up),
+      c.requires.within,
+      inv.2,
+      read_run _ (line_of c.loop-feed.origin) c.loop-feed.start c.loop-feed.read (c.args.end - c.loop-feed.read) c.args.end (omega (arith, up)) inv.0 c.requires.within c.in_default.ensures inv.3,
+    )
