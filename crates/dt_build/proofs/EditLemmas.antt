@@ -3,9 +3,11 @@ pub mod AllRead
 pub mod BootReg
 pub mod Collecting
 pub mod Decimals
+pub mod DtcFaultPlaces
 pub mod DtcItems
 pub mod DtcSteps
 pub mod DtcTargets
+pub mod FaultPlaces
 pub mod Faults
 pub mod FragmentSteps
 pub mod ItemSteps

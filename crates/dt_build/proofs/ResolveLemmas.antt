@@ -1,3 +1,4 @@
+pub mod BuildPlaces
 pub mod OwnNumbers
 pub mod Counted
 pub mod EachSteps

@@ -1,4 +1,7 @@
+pub mod Admitted
+pub mod DtcFaultPlaces
 pub mod EditFault
+pub mod FaultPlaces
 pub mod Fragments
 pub mod Private
 pub mod Said

@@ -1,5 +1,6 @@
 pub mod BuildError
 pub mod BuildFault
+pub mod BuildPlaces
 pub mod Founds
 pub mod Gathered
 pub mod Laws

@@ -11,6 +11,7 @@ ghost use Rattle.dt_build.specs.Private.FixupSites.{AreSites};
 ghost use Rattle.dt_build.specs.Private.Fitting.{IsFitting, MakesTree};
 ghost use Rattle.dt_build.specs.Private.Made.{lists};
 ghost use Rattle.dt_build.specs.Private.Ready.{IsReady};
+ghost use Rattle.dt_build.specs.Resolve.BuildPlaces.{IsEditPlaced};
 
 use crate::draft::{Draft, draft_of};
 use crate::edit::{Fragments, fragments_of};
@@ -86,7 +87,8 @@ fn source_tree<'d, 't>(
 ) -> Result<Option<Tree>, BuildError>
     requires lawful { IsLawful (meaning_of source.now) }
     requires fragments { AreFragments (meaning_of source.now).items fragments.now }
-    ensures { Builds symbols (meaning_of source.now) limit result }
+    ensures tree { Builds symbols (meaning_of source.now) limit result }
+    ensures at { IsEditPlaced source.now result }
 {
     match prepare(alloc, hasher, source, fragments, symbols) {
         Ok(prepared) => {
@@ -108,6 +110,7 @@ pub fn build_within(
     limit: usize,
 ) -> Result<Option<Tree>, BuildError>
     ensures tree { Builds symbols (meaning_of source.now) limit result }
+    ensures at { IsEditPlaced source.now result }
 {
     source.check();
     let fragments = fragments_of(alloc, source.items.as_slice())?;
@@ -122,6 +125,7 @@ pub fn build(
     symbols: bool,
 ) -> Result<Tree, BuildError>
     ensures tree { BuildsTree symbols (meaning_of source.now) result }
+    ensures at { IsEditPlaced source.now result }
 {
     match build_within(alloc, hasher, source, symbols, usize::MAX) {
         Ok(Some(tree)) => Ok(tree),

@@ -5,6 +5,7 @@ ghost use Rattle.dt_source.specs.Meaning.{meaning_of};
 ghost use Rattle.dt_build.specs.Edit.Fragments.{AreFragments};
 ghost use Rattle.dt_build.specs.BuiltByDtc.{BuildsDtc, HasPlaces, trees_of};
 ghost use Rattle.dt_build.specs.Private.DtcTrees.{IsGatheredOf, IsReadAs};
+ghost use Rattle.dt_build.specs.Resolve.BuildPlaces.{IsDtcEditPlaced};
 
 use crate::building::draft_tree;
 use crate::dtc_draft::dtc_draft_of;
@@ -80,6 +81,7 @@ fn dtc_source_tree<'d, 't>(
     requires lawful { IsLawful (meaning_of source.now) }
     requires fragments { AreFragments (meaning_of source.now).items fragments.now }
     ensures tree { BuildsDtc symbols (meaning_of source.now) limit (trees_of result) }
+    ensures at { IsDtcEditPlaced source.now result }
     ensures places { IfOk result (λ built. IfSome built (HasPlaces symbols source.now)) }
 {
     match edit_dtc(alloc, hasher, fragments, source) {
@@ -100,6 +102,7 @@ pub fn build_dtc_within(
     limit: usize,
 ) -> Result<Option<Built>, BuildError>
     ensures tree { BuildsDtc symbols (meaning_of source.now) limit (trees_of result) }
+    ensures at { IsDtcEditPlaced source.now result }
     ensures places { IfOk result (λ built. IfSome built (HasPlaces symbols source.now)) }
 {
     source.check();

@@ -95,7 +95,8 @@ fn counts(
 ) -> Result<Vec<u32>, AllocError>
     requires { All (λ x. x.node < nodes) properties.now }
     ensures count { IfOk result (λ counts. length counts.items ≡ nodes) }
-    ensures counts { IfOk result (λ counts. (n : ℕ) → n < nodes → slice_index_or counts.items n 0 ≡ count_of properties.now n) }
+    ensures counts { IfOk result (λ counts. (n : ℕ) → n < nodes
+        → slice_index_or counts.items n 0 ≡ count_of properties.now n) }
 {
     let mut counts = vec![in alloc; 0; nodes]?;
     for property in properties {
@@ -141,7 +142,8 @@ fn short(number: usize) -> Result<u32, AllocError>
 
 // Puts the offset of a part behind the others, where it is a reference's cell.
 fn put_reference(offsets: &mut Vec<u32>, part: &Part<'_>, offset: usize) -> Result<(), AllocError>
-    ensures { OnOk result ((path : ℕ → Path) (target : Option ℕ) → offsets.new.items ≡ offsets.old.items ++ map (λ _. offset) (label_found (found_of path part.now target))) }
+    ensures { OnOk result ((path : ℕ → Path) (target : Option ℕ)
+        → offsets.new.items ≡ offsets.old.items ++ map (λ _. offset) (label_found (found_of path part.now target))) }
 {
     match part {
         Part::Phandle(_) => {
@@ -161,7 +163,8 @@ fn put_references(
 ) -> Result<(), AllocError>
     requires ready { IsReady draft.now }
     requires known { All (IsKnown draft.now.live) targets.now }
-    ensures { OnOk result (offsets.new.items ≡ offsets.old.items ++ offsets_of (all_phandles draft.now) 0 (founds_of (node_path draft.now.live) parts.now targets.now)) }
+    ensures { OnOk result (offsets.new.items ≡ offsets.old.items
+        ++ offsets_of (all_phandles draft.now) 0 (founds_of (node_path draft.now.live) parts.now targets.now)) }
 {
     let mut used = 0;
     let mut offset = 0;

@@ -14,7 +14,7 @@ use Rattle.dt_live.specs.declared.live_tree.LiveTree.{LiveTree}
 use Rattle.dt_live.specs.Index.{is_key}
 use Rattle.dt_live.specs.Rows.{IsLiveTree, IsNode, IsKept, HasSamePropertyStamps, node_path, child_stamp, property_stamp, state_of}
 use Rattle.dt_live.proofs.Keeping.{kept-then, kept-in-child}
-use Rattle.dt_build.specs.Edit.Private.Admitted.{admitted}
+use Rattle.dt_build.specs.Edit.Admitted.{admitted}
 use Rattle.dt_build.specs.Edit.Private.Edited.{IsEdited}
 use Rattle.dt_build.specs.Edit.Private.Progress.{IsAt}
 use Rattle.dt_build.specs.Edit.Said.{Parts}

@@ -16,7 +16,16 @@ pub found-counted : {V : Type 0} (made : ℕ) (t : Target) (s : State V) → fou
 found-counted made (OfLabel l) s = refl
 found-counted made (OfPath p) s = refl
 
--- ---- bodies that nobody began
+-- ---- labels, after however many fragments
+module _ (made : ℕ) (old : LiveTree Parts) (ls : List (List ℕ)) (p : Path) where
+  pub labels-refused : give_labels ls p (state_of old) ≡ Err DuplicateLabel → give_labels ls p (counted made (tree_of old)) ≡ Err DuplicateLabel
+  labels-refused taken =
+      give_labels-kept (read_state made) (showing-keeps made) ls p (state_of old) ∙ ap (λ r. then_do r (λ s. Ok (read_state made s))) taken
+
+  pub labels-given : (mid : LiveTree Parts) → give_labels ls p (state_of old) ≡ Ok (state_of mid) → give_labels ls p (counted made (tree_of old)) ≡ Ok (counted made (tree_of mid))
+  labels-given mid given =
+      give_labels-kept (read_state made) (showing-keeps made) ls p (state_of old) ∙ ap (λ r. then_do r (λ s. Ok (read_state made s))) given
+
 -- ---- a node is deleted
 not-empty : (q : Path) (n : List ℕ) → same_path (q ++ n ∷ []) [] ≡ false
 not-empty [] n = refl
@@ -42,14 +51,12 @@ module _ (made : ℕ) (old : LiveTree Parts) (t : Target) (ls : List (List ℕ))
 
   pub extend-labelled : (p : Path) → found t (tree_of old) ≡ Ok p → give_labels ls p (state_of old) ≡ Err DuplicateLabel → after_item false (Extends ls t body) (counted made (tree_of old)) ≡ Err DuplicateLabel
   extend-labelled p at taken =
-      at-node p at ∙ ap (λ r. then_do r (λ u. after_body body p (begun u)))
-      (give_labels-kept (read_state made) (showing-keeps made) ls p (state_of old) ∙ ap (λ r. then_do r (λ s. Ok (read_state made s))) taken)
+      at-node p at ∙ ap (λ r. then_do r (λ u. after_body body p (begun u))) (labels-refused made old ls p taken)
 
   pub extended : (p : Path) (mid : LiveTree Parts) → found t (tree_of old) ≡ Ok p → give_labels ls p (state_of old) ≡ Ok (state_of mid)
       → after_item false (Extends ls t body) (counted made (tree_of old)) ≡ after_body body p (begun (counted made (tree_of mid)))
   extended p mid at given =
-      at-node p at ∙ ap (λ r. then_do r (λ u. after_body body p (begun u)))
-      (give_labels-kept (read_state made) (showing-keeps made) ls p (state_of old) ∙ ap (λ r. then_do r (λ s. Ok (read_state made s))) given)
+      at-node p at ∙ ap (λ r. then_do r (λ u. after_body body p (begun u))) (labels-given made old ls p mid given)
 
 -- ---- the next item
 pub items-go-on : (plugin : Bool) (i : Edit) (is : List Edit) (old mid : State (List Piece)) (all : Result (State (List Piece)) Fault) → after_items plugin (i ∷ is) old ≡ all → after_item plugin i old ≡ Ok mid

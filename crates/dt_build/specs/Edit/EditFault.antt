@@ -1,4 +1,4 @@
--- What each error says of the meaning; want of memory says nothing of it, and where an error stands isn't told of.
+-- What each error says of the meaning; want of memory says nothing of it. Where an error stands, `FaultPlaces` says.
 use Rattle.std.specs.Prelude.{◌≡◌, ℕ, List, Result, Ok, Err, MatchResult}
 use Rattle.dt_source.specs.TreeMeaning.Edits.{State, counted}
 use Rattle.dt_source.specs.TreeMeaning.Statements.{Fault}

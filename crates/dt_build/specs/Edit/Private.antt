@@ -1,5 +1,4 @@
 -- What private contracts cite: how far the code has come. No public clause rests on it.
-pub mod Admitted
 pub mod AllRead
 pub mod BootReg
 pub mod DtcEdited

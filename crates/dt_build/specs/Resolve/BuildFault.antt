@@ -1,4 +1,4 @@
--- What each error says of the meaning; want of memory says nothing of it, and where an error stands isn't told of.
+-- What each error says of the meaning; want of memory says nothing of it. Where an error stands, `BuildPlaces` says.
 use Rattle.std.specs.Prelude.{◌≡◌, Result, Err}
 use Rattle.dt_source.specs.TreeMeaning.Statements.{Fault}
 use Rattle.dt_source.specs.TreeMeaning.Statements as meaning

@@ -4,7 +4,8 @@ ghost use Rattle.dt_source.specs.TreeMeaning.Names.{fragment_name, overlay_name}
 ghost use Rattle.dt_source.specs.TreeMeaning.Statements.{makes_fragment, target_name, target_value};
 ghost use Rattle.dt_source.specs.Tree.{labels_view, target_view};
 ghost use Rattle.dt_live.specs.Rows.{IsLiveTree, IsStamped, node_path};
-ghost use Rattle.dt_build.specs.Edit.Private.Edited.{Does, HasFragment, IsPlace, fragment_step};
+ghost use Rattle.dt_build.specs.Edit.FaultPlaces.{fragment_place};
+ghost use Rattle.dt_build.specs.Edit.Private.Edited.{Does, HasFragment, IsPlace, IsPlacedIn, fragment_step};
 ghost use Rattle.dt_build.specs.Edit.Private.Made.{IsExact};
 ghost use Rattle.dt_build.specs.Edit.Said.{pieces, tree_of};
 
@@ -90,6 +91,7 @@ pub(crate) fn add_fragment<'d, 't>(
     ensures exact { OnOk result (IsExact made.new) }
     ensures count { OnOk result (made.new.count ≡ made.old.count + 1) }
     ensures item { Does (fragment_step target.now body.now name.now) live.old made.old live.new made.new result }
+    ensures at { IsPlacedIn (fragment_place target.now body.now name.now) live.old made.old result }
 {
     if live.child(0, name).is_some() {
         return Err(EditError {

@@ -1,11 +1,12 @@
 //! The statements of a body.
-ghost use Rattle.std.specs.Prelude.{◌≡◌, ◌≤◌, ◌<◌, ◌+◌, IfOk, OnOk};
+ghost use Rattle.std.specs.Prelude.{◌≡◌, ◌≤◌, ◌<◌, ◌+◌, IfOk, OnOk, Some};
 ghost use Rattle.dt_tree.specs.declared.limits.TheConstants.{MAX_DEPTH};
 ghost use Rattle.dt_source.specs.TreeMeaning.Paths.{Path};
 ghost use Rattle.dt_source.specs.Tree.{view};
 ghost use Rattle.dt_live.specs.Index.{IsSetAt};
 ghost use Rattle.dt_live.specs.Rows.{HasSamePropertyStamps, IsKept, child_path, child_stamp, node_path};
-ghost use Rattle.dt_build.specs.Edit.Private.Edited.{Admits, Does, IsEdited, IsPlace, Passes, body_step, child_entry};
+ghost use Rattle.dt_build.specs.Edit.FaultPlaces.{IsPlaced, Spotted, place_in, spot, spots};
+ghost use Rattle.dt_build.specs.Edit.Private.Edited.{Admits, Does, IsEdited, IsPlace, IsPlacedIn, Passes, Tells, body_step, child_entry};
 ghost use Rattle.dt_build.specs.Edit.Private.Made.{IsExact};
 
 use crate::edit::error::{EditError, EditErrorKind};
@@ -37,6 +38,7 @@ fn admit_child<'d, 't>(
     ensures properties { OnOk result (HasSamePropertyStamps live.old live.new) }
     ensures shallow { OnOk result (depth < MAX_DEPTH) }
     ensures step { Admits labels.now name.now live.old live.new node stamp made.now result }
+    ensures at { IsPlaced (Some at) result }
 {
     // the live tree holds them for as long as it lives itself
     let name: &'d [u8] = name;
@@ -77,6 +79,8 @@ fn edit_child<'d, 't>(
     requires exact { IsExact made.now }
     ensures edited { OnOk result (IsEdited (node_path live.old node) live.old live.new) }
     ensures step { Passes (child_entry labels.now name.now body.now) live.old live.new node stamp made.now result }
+    ensures at { Tells (child_entry labels.now name.now body.now)
+        (Spotted at (spots body.now)) live.old node stamp made.now result }
 {
     let child = admit_child(live, made, node, depth, stamp, at, labels, name)?;
     edit_body(live, made, child, depth + 1, body)?;
@@ -97,6 +101,7 @@ fn edit<'d, 't>(
     requires exact { IsExact made.now }
     ensures edited { OnOk result (IsEdited (node_path live.old node) live.old live.new) }
     ensures step { Passes (view statement.now) live.old live.new node stamp made.now result }
+    ensures at { Tells (view statement.now) (spot statement.now) live.old node stamp made.now result }
 {
     match statement {
         Statement::Property { name, value } => {
@@ -151,6 +156,7 @@ pub(crate) fn edit_body<'d, 't>(
     requires exact { IsExact made.now }
     ensures edited { OnOk result (IsEdited (node_path live.old node) live.old live.new) }
     ensures body { Does (body_step body.now (node_path live.old node)) live.old made.now live.new made.now result }
+    ensures at { IsPlacedIn (place_in body.now (node_path live.old node)) live.old made.now result }
 {
     let stamp = match live.new_stamp() {
         Some(stamp) => stamp,

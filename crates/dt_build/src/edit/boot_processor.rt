@@ -44,7 +44,8 @@ fn reg_below<'d, 't>(placed: &PlacedTree<'d, &'d Value<'t>>, node: usize) -> Opt
     requires sound { IsPlacedTree placed.now }
     requires node { IsStanding placed.now node }
     requires path { cpus ≡ node_path placed.now node }
-    ensures { Gets (option_and_then (reg_at (placed_of placed.now)) (first_below cpus (placed_of placed.now).nodes)) result }
+    ensures { Gets (option_and_then (reg_at (placed_of placed.now))
+        (first_below cpus (placed_of placed.now).nodes)) result }
 {
     match placed.first_child(node) {
         Some(first) => reg_of(placed, first),

@@ -1,10 +1,12 @@
 //! The statements of a body in dtc's language.
-ghost use Rattle.std.specs.Prelude.{◌≡◌, OnOk};
+ghost use Rattle.std.specs.Prelude.{◌≡◌, OnOk, Some};
 ghost use Rattle.dt_source.specs.TreeMeaning.DtcEdits.{made_property, unmade_node, unmade_property};
 ghost use Rattle.dt_source.specs.TreeMeaning.DtcStatements.{dtc_body, dtc_entry};
 ghost use Rattle.dt_source.specs.Tree.{view, views};
 ghost use Rattle.dt_live.specs.Placed.PlacedTrees.{child_path, node_path};
+ghost use Rattle.dt_build.specs.Edit.DtcFaultPlaces.{dtc_entry_place, dtc_place_in};
 ghost use Rattle.dt_build.specs.Edit.EditFault.{Gives};
+ghost use Rattle.dt_build.specs.Edit.FaultPlaces.{IsPlaced, Spotted, spot, spots};
 ghost use Rattle.dt_build.specs.Edit.Said.{pieces};
 ghost use Rattle.dt_build.specs.Edit.Private.DtcEdited.{IsDtcEdited, IsDtcPlace, dtc_child, placed_of};
 
@@ -25,7 +27,9 @@ fn set_property<'d, 't>(
 ) -> Result<(), EditError>
     requires place { IsDtcPlace placed.old first node depth }
     ensures edited { OnOk result (IsDtcEdited first node placed.old placed.new) }
-    ensures step { Gives (made_property first (node_path placed.old node) name.now (pieces value.entry) (placed_of placed.old)) (λ _. placed_of placed.new) result }
+    ensures step { Gives (made_property first (node_path placed.old node) name.now (pieces value.entry)
+        (placed_of placed.old)) (λ _. placed_of placed.new) result }
+    ensures at { IsPlaced (Some value.now.at) result }
 {
     if first {
         match placed.new_property(node, name, value) {
@@ -49,7 +53,8 @@ fn remove_property<'d, 't>(
 ) -> Result<(), AllocError>
     requires place { IsDtcPlace placed.old first node depth }
     ensures edited { OnOk result (IsDtcEdited first node placed.old placed.new) }
-    ensures step { OnOk result (placed_of placed.new ≡ unmade_property first (node_path placed.old node) name.now (placed_of placed.old)) }
+    ensures step { OnOk result (placed_of placed.new ≡ unmade_property first (node_path placed.old node) name.now
+        (placed_of placed.old)) }
 {
     if first {
         return placed.reserve_property(node, name);
@@ -68,7 +73,9 @@ fn remove_child<'d, 't>(
 ) -> Result<(), EditError>
     requires place { IsDtcPlace placed.old first node depth }
     ensures edited { OnOk result (IsDtcEdited first node placed.old placed.new) }
-    ensures step { Gives (unmade_node first (child_path placed.old node name.now) (placed_of placed.old)) (λ _. placed_of placed.new) result }
+    ensures step { Gives (unmade_node first (child_path placed.old node name.now) (placed_of placed.old))
+        (λ _. placed_of placed.new) result }
+    ensures at { IsPlaced (Some at) result }
 {
     if first {
         match placed.reserve_node(node, name) {
@@ -95,7 +102,10 @@ fn edit_dtc_child<'d, 't>(
 ) -> Result<(), EditError>
     requires place { IsDtcPlace placed.old first node depth }
     ensures edited { OnOk result (IsDtcEdited first node placed.old placed.new) }
-    ensures step { Gives (dtc_entry (dtc_child omitted labels.now name.now body.now) first (node_path placed.old node) (placed_of placed.old)) (λ _. placed_of placed.new) result }
+    ensures step { Gives (dtc_entry (dtc_child omitted labels.now name.now body.now) first (node_path placed.old node)
+        (placed_of placed.old)) (λ _. placed_of placed.new) result }
+    ensures at { IsPlaced (dtc_entry_place (dtc_child omitted labels.now name.now body.now)
+        (Spotted at (spots body.now)) first (node_path placed.old node) (placed_of placed.old)) result }
 {
     // the tree holds them for as long as it lives itself
     let name: &'d [u8] = name;
@@ -119,7 +129,10 @@ fn edit_dtc<'d, 't>(
 ) -> Result<(), EditError>
     requires place { IsDtcPlace placed.old first node depth }
     ensures edited { OnOk result (IsDtcEdited first node placed.old placed.new) }
-    ensures step { Gives (dtc_entry (view statement.now) first (node_path placed.old node) (placed_of placed.old)) (λ _. placed_of placed.new) result }
+    ensures step { Gives (dtc_entry (view statement.now) first (node_path placed.old node) (placed_of placed.old))
+        (λ _. placed_of placed.new) result }
+    ensures at { IsPlaced (dtc_entry_place (view statement.now) (spot statement.now) first (node_path placed.old node)
+        (placed_of placed.old)) result }
 {
     match statement {
         Statement::Property { name, value } => {
@@ -164,7 +177,9 @@ pub(crate) fn edit_dtc_body<'d, 't>(
 ) -> Result<(), EditError>
     requires place { IsDtcPlace placed.old first node depth }
     ensures edited { OnOk result (IsDtcEdited first node placed.old placed.new) }
-    ensures body { Gives (dtc_body (views body.now) first (node_path placed.old node) (placed_of placed.old)) (λ _. placed_of placed.new) result }
+    ensures body { Gives (dtc_body (views body.now) first (node_path placed.old node) (placed_of placed.old))
+        (λ _. placed_of placed.new) result }
+    ensures at { IsPlaced (dtc_place_in body.now first (node_path placed.old node) (placed_of placed.old)) result }
 {
     for statement in body {
         edit_dtc(placed, first, node, depth, statement)?;

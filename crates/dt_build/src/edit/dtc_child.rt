@@ -1,10 +1,11 @@
 //! A child in dtc's language: it is made or merged, marked and labelled.
-ghost use Rattle.std.specs.Prelude.{◌≡◌, ◌+◌, ◌&&◌, IfOk, OnOk, map, reverse, true};
+ghost use Rattle.std.specs.Prelude.{◌≡◌, ◌+◌, ◌&&◌, IfOk, OnOk, Some, map, reverse, true};
 ghost use Rattle.dt_source.specs.TreeMeaning.DtcEdits.{given_in_turn, made_node, with_labels_at, with_mark};
 ghost use Rattle.dt_source.specs.TreeMeaning.DtcStatements.{is_first};
 ghost use Rattle.dt_live.specs.Placed.PlacedTrees.{IsPlacedTree, IsStanding, child_path, node_path};
 ghost use Rattle.dt_live.specs.Placed.PlacedEdits.{Grows, HasSameNodes, IsFresh, IsMade, Keeps};
 ghost use Rattle.dt_build.specs.Edit.EditFault.{Gives};
+ghost use Rattle.dt_build.specs.Edit.FaultPlaces.{IsPlaced};
 ghost use Rattle.dt_build.specs.Edit.Private.DtcEdited.{IsDtcPlace, placed_of};
 
 use crate::edit::error::EditError;
@@ -24,7 +25,8 @@ pub(crate) fn give_labels<'d, 't>(
     ensures sound { OnOk result (IsPlacedTree placed.new) }
     ensures nodes { OnOk result (HasSameNodes placed.old placed.new) }
     ensures begun { placed.new.begun ≡ placed.old.begun }
-    ensures tree { OnOk result (placed_of placed.new ≡ with_labels_at (map (λ l. l.now) labels.now) (node_path placed.old node) (placed_of placed.old)) }
+    ensures tree { OnOk result (placed_of placed.new ≡ with_labels_at (map (λ l. l.now) labels.now)
+        (node_path placed.old node) (placed_of placed.old)) }
 {
     for label in labels {
         placed.give_label(*label, node, at)?;
@@ -44,7 +46,8 @@ fn give_labels_backwards<'d, 't>(
     ensures sound { OnOk result (IsPlacedTree placed.new) }
     ensures nodes { OnOk result (HasSameNodes placed.old placed.new) }
     ensures begun { placed.new.begun ≡ placed.old.begun }
-    ensures tree { OnOk result (placed_of placed.new ≡ with_labels_at (reverse (map (λ l. l.now) labels.now)) (node_path placed.old node) (placed_of placed.old)) }
+    ensures tree { OnOk result (placed_of placed.new ≡ with_labels_at (reverse (map (λ l. l.now) labels.now))
+        (node_path placed.old node) (placed_of placed.old)) }
 {
     for index in 0..labels.len() {
         placed.give_label(labels[labels.len() - 1 - index], node, at)?;
@@ -63,7 +66,8 @@ fn mark_child<'d, 't>(
     ensures sound { OnOk result (IsPlacedTree placed.new) }
     ensures nodes { OnOk result (HasSameNodes placed.old placed.new) }
     ensures begun { placed.new.begun ≡ placed.old.begun }
-    ensures tree { OnOk result (placed_of placed.new ≡ with_mark counts (node_path placed.old node) (placed_of placed.old)) }
+    ensures tree { OnOk result (placed_of placed.new ≡ with_mark counts (node_path placed.old node)
+        (placed_of placed.old)) }
 {
     if !counts {
         return Ok(());
@@ -84,7 +88,9 @@ pub(crate) fn dress_child<'d, 't>(
     ensures sound { OnOk result (IsPlacedTree placed.new) }
     ensures nodes { OnOk result (HasSameNodes placed.old placed.new) }
     ensures begun { placed.new.begun ≡ placed.old.begun }
-    ensures tree { OnOk result (placed_of placed.new ≡ with_labels_at (given_in_turn made.begins (map (λ l. l.now) labels.now)) (node_path placed.old made.node) (with_mark (omitted && made.begins) (node_path placed.old made.node) (placed_of placed.old))) }
+    ensures tree { OnOk result (placed_of placed.new ≡ with_labels_at
+        (given_in_turn made.begins (map (λ l. l.now) labels.now)) (node_path placed.old made.node)
+        (with_mark (omitted && made.begins) (node_path placed.old made.node) (placed_of placed.old))) }
 {
     mark_child(placed, made.node, omitted && made.begins)?;
     if made.begins {
@@ -110,8 +116,11 @@ pub(crate) fn make_child<'d, 't>(
     ensures keeps { OnOk result (Keeps node placed.old placed.new) }
     ensures grows { OnOk result (first ≡ true → Grows placed.old placed.new) }
     ensures begun { placed.new.begun ≡ placed.old.begun }
-    ensures begins { IfOk result (λ x. x.begins ≡ is_first first (child_path placed.old node name.now) (placed_of placed.old)) }
-    ensures step { Gives (made_node (is_first first (child_path placed.old node name.now) (placed_of placed.old)) (child_path placed.old node name.now) (placed_of placed.old)) (λ _. placed_of placed.new) result }
+    ensures begins { IfOk result (λ x. x.begins ≡ is_first first (child_path placed.old node name.now)
+        (placed_of placed.old)) }
+    ensures step { Gives (made_node (is_first first (child_path placed.old node name.now) (placed_of placed.old))
+        (child_path placed.old node name.now) (placed_of placed.old)) (λ _. placed_of placed.new) result }
+    ensures at { IsPlaced (Some at) result }
 {
     if first {
         match placed.new_node(node, name, at) {

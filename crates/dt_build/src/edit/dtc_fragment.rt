@@ -1,5 +1,5 @@
 //! The fragments that extensions of a plugin make, in dtc's language.
-ghost use Rattle.std.specs.Prelude.{◌≡◌, ◌∷◌, ◌++◌, [], IfOk, OnOk, true};
+ghost use Rattle.std.specs.Prelude.{◌≡◌, ◌∷◌, ◌++◌, [], IfOk, OnOk, Some, true};
 ghost use Rattle.dt_source.specs.TreeMeaning.Names.{overlay_name};
 ghost use Rattle.dt_source.specs.TreeMeaning.Statements.{target_name, target_value};
 ghost use Rattle.dt_source.specs.TreeMeaning.DtcEdits.{made_node, made_property};
@@ -7,7 +7,9 @@ ghost use Rattle.dt_source.specs.TreeMeaning.DtcStatements.{dtc_fragment};
 ghost use Rattle.dt_source.specs.Tree.{target_view, views};
 ghost use Rattle.dt_live.specs.Placed.PlacedTrees.{IsPlacedTree, IsStanding, node_path};
 ghost use Rattle.dt_live.specs.Placed.PlacedEdits.{HasSameNodes, IsFresh, IsMade};
+ghost use Rattle.dt_build.specs.Edit.DtcFaultPlaces.{dtc_fragment_place};
 ghost use Rattle.dt_build.specs.Edit.EditFault.{Gives};
+ghost use Rattle.dt_build.specs.Edit.FaultPlaces.{IsPlaced};
 ghost use Rattle.dt_build.specs.Edit.Said.{pieces};
 ghost use Rattle.dt_build.specs.Edit.Private.DtcEdited.{fragment_begun, placed_of};
 
@@ -29,6 +31,7 @@ fn begin_fragment<'d, 't>(
     ensures fresh { IfOk result (IsFresh placed.new) }
     ensures begun { placed.new.begun ≡ placed.old.begun }
     ensures step { Gives (fragment_begun name.now (placed_of placed.old)) (λ _. placed_of placed.new) result }
+    ensures at { IsPlaced (Some at) result }
 {
     if placed.has_child(0, name) {
         let kind = EditErrorKind::DuplicateInBody;
@@ -45,6 +48,7 @@ fn begin_fragment<'d, 't>(
 fn put_target<'d, 't>(
     placed: &mut PlacedTree<'d, &'d Value<'t>>,
     fragment: usize,
+    at: u32,
     name: &'d [u8],
     value: &'d Value<'t>,
 ) -> Result<(), EditError>
@@ -53,11 +57,13 @@ fn put_target<'d, 't>(
     ensures sound { OnOk result (IsPlacedTree placed.new) }
     ensures nodes { HasSameNodes placed.old placed.new }
     ensures begun { placed.new.begun ≡ placed.old.begun }
-    ensures step { Gives (made_property true (node_path placed.old fragment) name.now (pieces value.entry) (placed_of placed.old)) (λ _. placed_of placed.new) result }
+    ensures step { Gives (made_property true (node_path placed.old fragment) name.now (pieces value.entry)
+        (placed_of placed.old)) (λ _. placed_of placed.new) result }
+    ensures at { IsPlaced (Some at) result }
 {
     match placed.new_property(fragment, name, value) {
         Ok(()) => Ok(()),
-        Err(error) => Err(EditError::of_place(error, value.at)),
+        Err(error) => Err(EditError::of_place(error, at)),
     }
 }
 
@@ -71,10 +77,13 @@ fn begin_overlay<'d, 't>(
     requires node { IsStanding placed.old fragment }
     requires fresh { IsFresh placed.old fragment }
     ensures sound { OnOk result (IsPlacedTree placed.new) }
-    ensures made { IfOk result (λ node. IsMade placed.new fragment node (node_path placed.old fragment ++ overlay_name ∷ [])) }
+    ensures made { IfOk result (λ node. IsMade placed.new fragment node
+        (node_path placed.old fragment ++ overlay_name ∷ [])) }
     ensures fresh { IfOk result (IsFresh placed.new) }
     ensures begun { placed.new.begun ≡ placed.old.begun }
-    ensures step { Gives (made_node true (node_path placed.old fragment ++ overlay_name ∷ []) (placed_of placed.old)) (λ _. placed_of placed.new) result }
+    ensures step { Gives (made_node true (node_path placed.old fragment ++ overlay_name ∷ []) (placed_of placed.old))
+        (λ _. placed_of placed.new) result }
+    ensures at { IsPlaced (Some at) result }
 {
     match placed.new_node(fragment, b"__overlay__".as_slice(), at) {
         Ok(overlay) => Ok(overlay),
@@ -94,10 +103,12 @@ pub(crate) fn add_dtc_fragment<'d, 't>(
     requires value { pieces value ≡ target_value (target_view target.now) }
     ensures sound { OnOk result (IsPlacedTree placed.new) }
     ensures begun { OnOk result (placed.new.begun ≡ placed.old.begun) }
-    ensures item { Gives (dtc_fragment (target_view target.now) (views body.now) name.now (placed_of placed.old)) (λ _. placed_of placed.new) result }
+    ensures item { Gives (dtc_fragment (target_view target.now) (views body.now) name.now (placed_of placed.old))
+        (λ _. placed_of placed.new) result }
+    ensures at { IsPlaced (dtc_fragment_place target.now body.now name.now (placed_of placed.old)) result }
 {
     let fragment = begin_fragment(placed, target.at(), name)?;
-    put_target(placed, fragment, target_name(target), value)?;
+    put_target(placed, fragment, target.at(), target_name(target), value)?;
     let overlay = begin_overlay(placed, fragment, target.at())?;
     edit_dtc_body(placed, true, overlay, 2, body)
 }

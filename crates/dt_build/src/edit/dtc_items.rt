@@ -1,12 +1,14 @@
 //! The items of a source in dtc's language.
-ghost use Rattle.std.specs.Prelude.{◌≡◌, ◌≤◌, ◌∷◌, [], IfOk, List, OnOk, false, map, true};
+ghost use Rattle.std.specs.Prelude.{◌≡◌, ◌≤◌, ◌∷◌, [], IfOk, List, OnOk, false, map, not, true};
 ghost use Rattle.dt_source.specs.TreeMeaning.Syntax.{Edit, Rooted};
-ghost use Rattle.dt_source.specs.TreeMeaning.DtcEdits.{nothing};
-ghost use Rattle.dt_source.specs.TreeMeaning.DtcStatements.{dtc_item, dtc_items};
+ghost use Rattle.dt_source.specs.TreeMeaning.DtcEdits.{node_has_place, nothing};
+ghost use Rattle.dt_source.specs.TreeMeaning.DtcStatements.{dtc_item, dtc_items, with_root};
 ghost use Rattle.dt_source.specs.Tree.{item_view, views};
 ghost use Rattle.dt_live.specs.Placed.PlacedTrees.{IsPlacedTree};
 ghost use Rattle.dt_live.specs.Placed.Tables.{rows_in};
+ghost use Rattle.dt_build.specs.Edit.DtcFaultPlaces.{dtc_item_place, dtc_items_place, dtc_place_in};
 ghost use Rattle.dt_build.specs.Edit.EditFault.{Gives};
+ghost use Rattle.dt_build.specs.Edit.FaultPlaces.{IsPlaced};
 ghost use Rattle.dt_build.specs.Edit.Fragments.{AreFragments};
 ghost use Rattle.dt_build.specs.Edit.Private.DtcEdited.{IsDtcReady, placed_of};
 ghost use Rattle.dt_build.specs.Edit.Private.Ready.{IsReady};
@@ -31,7 +33,10 @@ fn edit_dtc_root<'d, 't>(
     requires empty { placed.old.begun ≡ false → rows_in placed.old.nodes ≡ [] }
     ensures sound { OnOk result (IsPlacedTree placed.new) }
     ensures begun { OnOk result (placed.new.begun ≡ true) }
-    ensures item { Gives (dtc_item false (Rooted (views body.now)) (placed_of placed.old)) (λ _. placed_of placed.new) result }
+    ensures item { Gives (dtc_item false (Rooted (views body.now)) (placed_of placed.old))
+        (λ _. placed_of placed.new) result }
+    ensures at { IsPlaced (dtc_place_in body.now (not (node_has_place [] (placed_of placed.old))) []
+        (with_root (placed_of placed.old))) result }
 {
     let first = !placed.is_begun();
     placed.begin();
@@ -53,7 +58,9 @@ fn edit_dtc_item<'d, 't>(
     requires fragments { (rest : List Edit) × IsReady fragments.now extension (item_view item.now ∷ rest) }
     ensures sound { OnOk result (IsPlacedTree placed.new) }
     ensures begun { OnOk result (placed.new.begun ≡ true) }
-    ensures item { Gives (dtc_item plugin (item_view item.now) (placed_of placed.old)) (λ _. placed_of placed.new) result }
+    ensures item { Gives (dtc_item plugin (item_view item.now) (placed_of placed.old))
+        (λ _. placed_of placed.new) result }
+    ensures at { IsPlaced (dtc_item_place plugin item.now (placed_of placed.old)) result }
 {
     match item {
         Item::Root { at: _, body } => edit_dtc_root(placed, body.as_slice()),
@@ -89,6 +96,7 @@ pub(crate) fn edit_dtc_items<'d, 't>(
     requires fragments { AreFragments (map item_view items.now) fragments.now }
     ensures sound { IfOk result IsPlacedTree }
     ensures items { Gives (dtc_items plugin (map item_view items.now) nothing) placed_of result }
+    ensures at { IsPlaced (dtc_items_place plugin items.now nothing) result }
 {
     let mut placed = PlacedTree::new(alloc, hasher);
     let mut extensions = 0;

@@ -1,11 +1,13 @@
 //! The items of a source in dtc's language that name a node.
-ghost use Rattle.std.specs.Prelude.{◌≡◌, IfOk, OnOk, false, is_ok, not, true};
+ghost use Rattle.std.specs.Prelude.{◌≡◌, IfOk, OnOk, Some, false, is_ok, not, true};
 ghost use Rattle.dt_source.specs.TreeMeaning.DtcStatements.{begins_fragment, dtc_item};
 ghost use Rattle.dt_source.specs.TreeMeaning.DtcEdits.{named_node};
 ghost use Rattle.dt_source.specs.TreeMeaning.Syntax.{Deletes, OfLabel, Omits};
-ghost use Rattle.dt_source.specs.Tree.{labels_view, target_view, views};
+ghost use Rattle.dt_source.specs.Tree.{labels_view, reference_at, target_view, views};
 ghost use Rattle.dt_live.specs.Placed.PlacedTrees.{IsPlacedTree};
+ghost use Rattle.dt_build.specs.Edit.DtcFaultPlaces.{dtc_extension_place};
 ghost use Rattle.dt_build.specs.Edit.EditFault.{Gives};
+ghost use Rattle.dt_build.specs.Edit.FaultPlaces.{IsPlaced};
 ghost use Rattle.dt_build.specs.Edit.Private.DtcEdited.{IsDtcReady, dtc_extended, placed_of};
 
 use crate::edit::dtc_body::edit_dtc_body;
@@ -26,7 +28,9 @@ pub(crate) fn delete<'d, 't>(
     requires ready { IsDtcReady placed.old }
     ensures sound { OnOk result (IsPlacedTree placed.new) }
     ensures begun { OnOk result (placed.new.begun ≡ true) }
-    ensures item { Gives (dtc_item false (Deletes (target_view target.now)) (placed_of placed.old)) (λ _. placed_of placed.new) result }
+    ensures item { Gives (dtc_item false (Deletes (target_view target.now)) (placed_of placed.old))
+        (λ _. placed_of placed.new) result }
+    ensures at { IsPlaced (Some (reference_at target.now)) result }
 {
     let node = dtc_target_of(alloc, hasher, placed, target)?;
     if node == 0 {
@@ -48,7 +52,9 @@ pub(crate) fn omit<'d, 't>(
     requires ready { IsDtcReady placed.old }
     ensures sound { OnOk result (IsPlacedTree placed.new) }
     ensures begun { OnOk result (placed.new.begun ≡ true) }
-    ensures item { Gives (dtc_item false (Omits (target_view target.now)) (placed_of placed.old)) (λ _. placed_of placed.new) result }
+    ensures item { Gives (dtc_item false (Omits (target_view target.now)) (placed_of placed.old))
+        (λ _. placed_of placed.new) result }
+    ensures at { IsPlaced (Some (reference_at target.now)) result }
 {
     let node = dtc_target_of(alloc, hasher, placed, target)?;
     placed.mark(node)?;
@@ -66,7 +72,9 @@ pub(crate) fn extend<'d, 't>(
     requires ready { IsDtcReady placed.old }
     ensures sound { OnOk result (IsPlacedTree placed.new) }
     ensures begun { OnOk result (placed.new.begun ≡ true) }
-    ensures item { Gives (dtc_extended (labels_view labels.now) (target_view target.now) (views body.now) (placed_of placed.old)) (λ _. placed_of placed.new) result }
+    ensures item { Gives (dtc_extended (labels_view labels.now) (target_view target.now) (views body.now)
+        (placed_of placed.old)) (λ _. placed_of placed.new) result }
+    ensures at { IsPlaced (dtc_extension_place labels.now target.now body.now (placed_of placed.old)) result }
 {
     let node = dtc_target_of(alloc, hasher, placed, target)?;
     let labels: &'d [&'d [u8]] = labels.as_slice();
@@ -99,7 +107,8 @@ pub(crate) fn begins_fragment<'d, 't>(
     target: &'d Reference<'t>,
 ) -> Result<bool, AllocError>
     requires ready { IsDtcReady placed.now }
-    ensures { IfOk result (λ begins. begins ≡ begins_fragment plugin (labels_view labels.now) (target_view target.now) (placed_of placed.now)) }
+    ensures { IfOk result (λ begins. begins ≡ begins_fragment plugin (labels_view labels.now) (target_view target.now)
+        (placed_of placed.now)) }
 {
     if !plugin {
         return Ok(false);

@@ -1,10 +1,11 @@
 //! What references name in the tree so far, in dtc's language.
-ghost use Rattle.std.specs.Prelude.{◌≡◌, IfOk, OnOk, true};
+ghost use Rattle.std.specs.Prelude.{◌≡◌, IfOk, OnOk, Some, true};
 ghost use Rattle.dt_source.specs.TreeMeaning.DtcEdits.{named_node};
 ghost use Rattle.dt_source.specs.TreeMeaning.Syntax.{OfLabel, OfPath};
-ghost use Rattle.dt_source.specs.Tree.{target_view};
+ghost use Rattle.dt_source.specs.Tree.{reference_at, target_view};
 ghost use Rattle.dt_live.specs.Placed.PlacedTrees.{IsStanding, node_path};
 ghost use Rattle.dt_build.specs.Edit.EditFault.{Gives};
+ghost use Rattle.dt_build.specs.Edit.FaultPlaces.{IsPlaced};
 ghost use Rattle.dt_build.specs.Edit.Private.DtcEdited.{IsDtcReady, placed_of};
 
 use crate::edit::error::{EditError, EditErrorKind};
@@ -24,6 +25,7 @@ fn node_of_label<'d, 't>(
     ensures node { Gives (named_node (OfLabel label.now) (placed_of placed.now)) (node_path placed.now) result }
     ensures stands { IfOk result (IsStanding placed.now) }
     ensures begun { OnOk result (placed.now.begun ≡ true) }
+    ensures at { IsPlaced (Some at) result }
 {
     let found = placed.labelled(alloc, hasher, label)?;
     match found {
@@ -44,6 +46,7 @@ fn node_of_path<'d, 't>(
     ensures node { Gives (named_node (OfPath path.now) (placed_of placed.now)) (node_path placed.now) result }
     ensures stands { IfOk result (IsStanding placed.now) }
     ensures begun { OnOk result (placed.now.begun ≡ true) }
+    ensures at { IsPlaced (Some at) result }
 {
     match placed.at_path(path) {
         Some(node) => Ok(node),
@@ -65,6 +68,7 @@ pub(crate) fn dtc_target_of<'d, 't>(
     ensures node { Gives (named_node (target_view target.now) (placed_of placed.now)) (node_path placed.now) result }
     ensures stands { IfOk result (IsStanding placed.now) }
     ensures begun { OnOk result (placed.now.begun ≡ true) }
+    ensures at { IsPlaced (Some (reference_at target.now)) result }
 {
     match target {
         Reference::Label { at, label } => node_of_label(alloc, hasher, placed, *at, *label),

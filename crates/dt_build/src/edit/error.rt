@@ -44,7 +44,8 @@ impl From<AllocError> for EditError {
 
 impl EditError {
     pub(crate) fn of_label(error: LabelError, at: u32) -> EditError
-        ensures { result.kind ≡ edit_error error }
+        ensures kind { result.kind ≡ edit_error error }
+        ensures place { result.at ≡ at }
     {
         let kind = match error {
             LabelError::NoMemory => EditErrorKind::NoMemory,
@@ -54,7 +55,8 @@ impl EditError {
     }
 
     pub(crate) fn of_place(error: PlaceError, at: u32) -> EditError
-        ensures { result.kind ≡ place_error error }
+        ensures kind { result.kind ≡ place_error error }
+        ensures place { result.at ≡ at }
     {
         let kind = match error {
             PlaceError::NoMemory => EditErrorKind::NoMemory,

@@ -1,13 +1,14 @@
 //! The items of a source.
-ghost use Rattle.std.specs.Prelude.{◌≡◌, ◌+◌, ◌≤◌, ◌∷◌, List, length, map, OnOk};
+ghost use Rattle.std.specs.Prelude.{◌≡◌, ◌+◌, ◌≤◌, ◌∷◌, List, Some, length, map, OnOk};
 ghost use Rattle.dt_source.specs.TreeMeaning.Syntax.{Edit};
 ghost use Rattle.dt_source.specs.TreeMeaning.Statements.{after_item, after_items};
-ghost use Rattle.dt_source.specs.Tree.{item_view};
+ghost use Rattle.dt_source.specs.Tree.{item_view, reference_at};
 ghost use Rattle.dt_live.specs.Rows.{IsLiveTree, IsStamped};
 ghost use Rattle.dt_build.specs.Edit.EditFault.{Shows};
+ghost use Rattle.dt_build.specs.Edit.FaultPlaces.{IsPlaced, extension_place, item_place, items_place};
 ghost use Rattle.dt_build.specs.Edit.Fragments.{AreFragments, target_values};
 ghost use Rattle.dt_build.specs.declared.edit.made.Made.{Made};
-ghost use Rattle.dt_build.specs.Edit.Private.Edited.{Does, delete_step, extend_step};
+ghost use Rattle.dt_build.specs.Edit.Private.Edited.{Does, IsPlacedIn, delete_step, extend_step};
 ghost use Rattle.dt_build.specs.Edit.Private.Made.{IsExact};
 ghost use Rattle.dt_build.specs.Edit.Private.Ready.{IsReady};
 ghost use Rattle.dt_build.specs.Edit.Said.{tree_of};
@@ -31,6 +32,7 @@ fn delete<'d, 't>(
     ensures sound { OnOk result (IsLiveTree live.new) }
     ensures stamped { OnOk result (IsStamped live.new) }
     ensures item { (made : Made) → Does (delete_step target.now) live.old made live.new made result }
+    ensures at { IsPlaced (Some (reference_at target.now)) result }
 {
     let node = target_of(live, target)?;
     if node == 0 {
@@ -56,6 +58,7 @@ fn extend<'d, 't>(
     ensures sound { OnOk result (IsLiveTree live.new) }
     ensures stamped { OnOk result (IsStamped live.new) }
     ensures item { Does (extend_step labels.now target.now body.now) live.old made.now live.new made.now result }
+    ensures at { IsPlacedIn (extension_place labels.now target.now body.now) live.old made.now result }
 {
     let node = target_of(live, target)?;
     if let Err(error) = live.give_labels(labels.as_slice(), node) {
@@ -94,6 +97,7 @@ fn edit_item<'d, 't>(
     ensures exact { OnOk result (IsExact made.new) }
     ensures counted { OnOk result (made.new.count ≤ extension + length (target_values (item_view item.now))) }
     ensures item { Does (after_item plugin (item_view item.now)) live.old made.old live.new made.new result }
+    ensures at { IsPlacedIn (item_place plugin item.now) live.old made.old result }
 {
     match item {
         Item::Root { at: _, body } => edit_body(live, made, 0, 0, body.as_slice()),
@@ -131,6 +135,7 @@ pub fn edit_items<'d, 't>(
     ensures sound { OnOk result (IsLiveTree live.new) }
     ensures stamped { OnOk result (IsStamped live.new) }
     ensures items { Shows (after_items plugin (map item_view items.now) (tree_of live.old)) live.new result }
+    ensures at { IsPlaced (items_place plugin items.now (tree_of live.old)) result }
 {
     let mut made = Made::new(alloc);
     let mut extensions = 0;

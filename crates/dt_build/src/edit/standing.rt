@@ -1,6 +1,7 @@
 //! What stands when a source in dtc's language is read.
 ghost use Rattle.dt_source.specs.Meaning.{meaning_of};
 ghost use Rattle.dt_live.specs.Placed.PlacedTrees.{IsPlacedTree};
+ghost use Rattle.dt_build.specs.Edit.DtcFaultPlaces.{IsDtcPlaced};
 ghost use Rattle.dt_build.specs.Edit.Fragments.{AreFragments};
 ghost use Rattle.dt_build.specs.Edit.Private.AllRead.{Leaves};
 ghost use Rattle.dt_build.specs.Edit.Private.DtcEdited.{placed_of};
@@ -61,7 +62,8 @@ pub fn edit_dtc<'d, 't>(
     source: &'d Source<'t>,
 ) -> Result<Standing<'d, 't>, EditError>
     requires { AreFragments (meaning_of source.now).items fragments.now }
-    ensures { Edits (meaning_of source.now) result }
+    ensures all { Edits (meaning_of source.now) result }
+    ensures at { IsDtcPlaced source.now result }
 {
     let items = source.items.as_slice();
     match edit_dtc_items(alloc, hasher, source.plugin, fragments, items) {

@@ -1,7 +1,7 @@
 //! What references name in the tree so far.
 ghost use Rattle.std.specs.Prelude.{◌≡◌, ◌≢◌, true, IfErr, IfOk};
 ghost use Rattle.dt_source.specs.TreeMeaning.Statements.{found};
-ghost use Rattle.dt_source.specs.Tree.{target_view};
+ghost use Rattle.dt_source.specs.Tree.{reference_at, target_view};
 ghost use Rattle.dt_live.specs.Rows.{IsLiveTree, IsNode, is_standing, node_path};
 ghost use Rattle.dt_build.specs.Edit.EditFault.{Gives};
 ghost use Rattle.dt_build.specs.Edit.Said.{tree_of};
@@ -20,6 +20,7 @@ pub fn target_of<'d, 't>(
     ensures known { IfOk result (λ node. IsNode live.now node) }
     ensures there { IfOk result (λ node. is_standing live.now node ≡ true) }
     ensures memory { IfErr result (λ e. e.kind ≢ EditErrorKind.NoMemory) }
+    ensures at { IfErr result (λ e. e.at ≡ reference_at target.now) }
 {
     match target {
         Reference::Label { at, label } => {

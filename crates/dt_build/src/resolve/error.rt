@@ -72,7 +72,7 @@ impl From<EditError> for BuildError {
     ghost use Rattle.std.specs.Prelude.{◌≡◌};
     ghost use Rattle.dt_build.specs.Resolve.BuildFault.{build_error};
 
-    ghost from_gives = { λ a e. e.kind ≡ build_error a.kind };
+    ghost from_gives = { λ a e. (e.kind ≡ build_error a.kind) × (e.at ≡ a.at) };
 
     fn from(e: EditError) -> BuildError {
         let kind = match e.kind {

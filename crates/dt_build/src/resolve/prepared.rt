@@ -3,6 +3,7 @@ ghost use Rattle.std.specs.Prelude.{◌≡◌};
 ghost use Rattle.dt_source.specs.TreeMeaning.Edits.{empty};
 ghost use Rattle.dt_live.specs.Rows.{IsLiveTree, IsStamped, state_of};
 ghost use Rattle.dt_build.specs.Edit.Fragments.{AreFragments};
+ghost use Rattle.dt_build.specs.Resolve.BuildPlaces.{IsEditPlaced};
 ghost use Rattle.dt_build.specs.Resolve.Prepared.{Prepares};
 ghost use Rattle.dt_build.specs.Resolve.Private.Filled.{Completes, whole};
 ghost use Rattle.dt_source.specs.Meaning.{meaning_of};
@@ -56,7 +57,8 @@ fn fill<'d, 't>(
     requires assigned { IsStamped live.old }
     requires empty { state_of live.old ≡ empty }
     requires fragments { AreFragments (meaning_of source.now).items fragments.now }
-    ensures { Prepares symbols (meaning_of source.now) (whole source.now.plugin live.new) result }
+    ensures all { Prepares symbols (meaning_of source.now) (whole source.now.plugin live.new) result }
+    ensures at { IsEditPlaced source.now result }
 {
     match edit_items(
         alloc,
@@ -80,7 +82,8 @@ pub fn prepare<'d, 't>(
     symbols: bool,
 ) -> Result<Prepared<'d, 't>, BuildError>
     requires { AreFragments (meaning_of source.now).items fragments.now }
-    ensures { Prepares symbols (meaning_of source.now) (λ prepared. prepared) result }
+    ensures all { Prepares symbols (meaning_of source.now) (λ prepared. prepared) result }
+    ensures at { IsEditPlaced source.now result }
 {
     let mut live = LiveTree::new(alloc, hasher);
     match fill(alloc, &mut live, source, fragments, symbols) {

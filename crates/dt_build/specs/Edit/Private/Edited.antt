@@ -1,5 +1,5 @@
 -- What edits do to a live tree (Devicetree Specification v0.4, section 6.3).
-use Rattle.std.specs.Prelude.{◌≡◌, ◌≤◌, ◌+◌, ℕ, true, false, List, map, length, Result, Ok, MatchResult}
+use Rattle.std.specs.Prelude.{◌≡◌, ◌≤◌, ◌+◌, ℕ, true, false, List, map, length, Option, Result, Ok, MatchResult}
 use denote.Ref.{Bor}
 use Rattle.dt_source.specs.declared.labels.Labels.{Labels}
 use Rattle.dt_source.specs.declared.tree.Reference.{Reference}
@@ -14,7 +14,8 @@ use Rattle.dt_live.specs.Rows.{IsLiveTree, IsKept, IsNode, IsStamped, is_standin
 use Rattle.dt_build.specs.declared.edit.error.EditError.{EditError}
 use Rattle.dt_build.specs.declared.edit.made.Made.{Made}
 use Rattle.dt_build.specs.Edit.EditFault.{Gives, IsFault}
-use Rattle.dt_build.specs.Edit.Private.Admitted.{admitted}
+use Rattle.dt_build.specs.Edit.FaultPlaces.{IsPlaced, Spot, entry_place}
+use Rattle.dt_build.specs.Edit.Admitted.{admitted}
 use Rattle.dt_build.specs.Edit.Private.Progress.{HasMarks, IsAt}
 use Rattle.dt_build.specs.Edit.Said.{Parts, tree_of}
 
@@ -58,6 +59,16 @@ Passes entry old new node stamp made result = (x : Progress (List Piece)) → Is
     → MatchResult result
     (λ _. (y : Progress (List Piece)) × (after_entry entry (node_path old node) x ≡ Ok y) × IsAt y new node stamp made.count)
     (λ e. IsFault e.kind (after_entry entry (node_path old node) x))
+
+-- ---- where a call is refused
+-- where the fault of what was done to the live tree is, with the fragments made so far
+abbrev pub IsPlacedIn : {A : Type 0} → (State (List Piece) → Option ℕ) → LiveTree Parts → Made → Result A EditError → Type 0
+IsPlacedIn place old before result = IsPlaced (place (counted before.count (tree_of old))) result
+
+-- where the fault of a statement is, wherever its body stands
+abbrev pub Tells : {A : Type 0} → Entry (List Piece) → Spot → LiveTree Parts → ℕ → ℕ → Made → Result A EditError → Type 0
+Tells entry here old node stamp made result =
+    (x : Progress (List Piece)) → IsAt x old node stamp made.count → IsPlaced (entry_place entry here (node_path old node) x) result
 
 -- ---- what stays
 -- a node that takes a body: it stands in a sound tree, so many levels deep

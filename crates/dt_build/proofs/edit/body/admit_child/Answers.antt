@@ -4,7 +4,7 @@ use Rattle.dt_source.specs.TreeMeaning.Statements as meaning
 use Rattle.dt_live.specs.declared.live_tree.NodeRow.{NodeRow}
 use Rattle.dt_live.specs.Rows.{Kept, child_stamp, node_path, state_of}
 use Rattle.dt_live.proofs.Climbs.{not-true}
-use Rattle.dt_build.specs.Edit.Private.Admitted.{admitted}
+use Rattle.dt_build.specs.Edit.Admitted.{admitted}
 use Rattle.dt_build.proofs.EditLemmas.Admission.{label-taken, child-twice, child-taken, child-deep, child-in, taken-at, shallow}
 use Rattle.dt_build.proofs.EditLemmas.Faults.{fault-error, label-says}
 use Rattle.dt_build.proofs.EditLemmas.Steps.{not-false}
@@ -16,7 +16,7 @@ returns-in-Err-clause-step c x at =
     let one = c.define_child.new.self in
     let ls = map (λ l. l.now) c.args.labels.now in
     let r = admitted ls c.args.name.now (node_path old c.args.node) x in
-    fault-error c.of_label.result.kind _ r c.of_label.ensures
+    fault-error c.of_label.result.kind _ r c.of_label.ensures.kind
     (label-says c.in-Err.error r (λ same. label-taken x old one one c.args.node c.args.stamp c.args.made.now.count ls c.args.name.now at c.in_ok-child.ensures.state
     (ap (λ q. meaning.give_labels ls q (state_of one)) (sym c.in_ok-child.ensures.made) ∙ c.in-Err.ensures.refused (ap (λ e. Err e) same))))
 

@@ -46,5 +46,5 @@ returns-in-Err-clause-step c =
     ap (λ b. if b then Err DuplicateInBody else made_node true q (counted_fragment t)) none
     ∙ ap (λ u. made_node true q u) (sym (c.in_ok-count_fragment.ensures.tree pieces))
     ∙ ap (λ b. made_node b q counted) (sym first) in
-    fault-error c.of_place.result.kind (place_error c.in-Err.error) (fragment_begun c.args.name.now t) c.of_place.ensures
+    fault-error c.of_place.result.kind (place_error c.in-Err.error) (fragment_begun c.args.name.now t) c.of_place.ensures.kind
     (fault-same (place_error c.in-Err.error) made (fragment_begun c.args.name.now t) same (place-says c.in-Err.error made (c.in-Err.ensures.tree pieces)))

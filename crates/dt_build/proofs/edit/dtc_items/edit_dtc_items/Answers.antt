@@ -5,9 +5,11 @@ use Rattle.dt_source.specs.declared.tree.Item.{Item}
 use Rattle.dt_source.specs.Tree.{item_view}
 use Rattle.dt_source.specs.TreeMeaning.DtcEdits.{DtcTree, nothing}
 use Rattle.dt_source.specs.TreeMeaning.DtcStatements.{dtc_item, dtc_items}
+use Rattle.dt_build.specs.Edit.DtcFaultPlaces.{dtc_items_place}
 use Rattle.dt_build.specs.Edit.Said.{pieces}
 use Rattle.dt_build.specs.Edit.Private.DtcEdited.{placed_of}
 use Rattle.dt_build.specs.Edit.Private.Ready.{IsReady}
+use Rattle.dt_build.proofs.EditLemmas.DtcFaultPlaces.{items-place-goes-on, items-place-stops}
 use Rattle.dt_build.proofs.EditLemmas.DtcItems.{item-counts, items-next, reached-next, reached-shallow}
 use Rattle.dt_build.proofs.EditLemmas.Faults.{fault-same, fault-then}
 use Rattle.dt_build.proofs.EditLemmas.Readiness.{ready-first, ready-next}
@@ -24,6 +26,7 @@ loop-item-init c =
       few = omega arith;
       ready = ready-first (map item_view c.args.items.now) c.args.fragments.now c.requires.fragments;
       rest = ap (dtc_items c.args.plugin (map item_view c.args.items.now)) is;
+      place = ap (dtc_items_place c.args.plugin c.args.items.now) is;
     }
 
 pub edit_dtc_item-edited-requires-clause-ready : goal.edit_dtc_item-edited-requires-clause-ready
@@ -61,6 +64,8 @@ loop-item-preserved c =
       ready = subst (λ (n : ℕ). IsReady f (c.loop-item.extensions + n) left) (sym more) (ready-next f c.loop-item.extensions item left ready);
       rest = items-next plugin item left (placed_of live) (placed_of new) (dtc_items plugin (map item_view items) nothing)
           (sym (ap (λ xs. dtc_items plugin (map item_view xs) (placed_of live)) next) ∙ i.rest) e.item;
+      place = items-place-goes-on plugin c.item-item.result (drop (at + 1) items) (placed_of live) (dtc_items_place plugin items nothing)
+          (sym (ap (λ xs. dtc_items_place plugin xs (placed_of live)) next) ∙ i.place) (placed_of new) e.item;
     }
 
 pub returns-in-Err-clause-items : goal.returns-in-Err-clause-items
@@ -75,3 +80,14 @@ returns-in-Err-clause-items c =
     fault-same c.in-Err.error.kind (then_do (dtc_item plugin item t) (dtc_items plugin left)) (dtc_items plugin (map item_view items) nothing)
     (sym c.loop-item.invariant.rest ∙ ap (λ xs. dtc_items plugin (map item_view xs) t) next)
     (fault-then c.in-Err.error.kind (dtc_item plugin item t) (dtc_items plugin left) c.in-Err.ensures.item)
+
+pub returns-in-Err-clause-at : goal.returns-in-Err-clause-at
+returns-in-Err-clause-at c some =
+    let plugin = c.args.plugin in
+    let at = c.loop-item.item-index in
+    let items = c.args.items.now in
+    let t = placed_of c.loop-item.placed in
+    let next : drop at items ≡ c.item-item.result ∷ drop (at + 1) items = drop-cons items at c.item-item.result c.loop-item-test.true ∙ ap₂ (λ a n. a ∷ drop n items) (sym c.item-item.is) (sym (add-one at)) in
+    c.in-Err.ensures.at some
+    ∙ items-place-stops plugin c.item-item.result (drop (at + 1) items) t (dtc_items_place plugin items nothing)
+    (sym (ap (λ xs. dtc_items_place plugin xs t) next) ∙ c.loop-item.invariant.place) c.in-Err.error.kind some c.in-Err.ensures.item

@@ -4,6 +4,7 @@ use Rattle.dt_source.specs.TreeMeaning.DtcEdits.{nothing}
 use Rattle.dt_source.specs.TreeMeaning.DtcStatements.{dtc_items}
 use Rattle.dt_live.specs.Placed.PlacedTrees.{IsPlacedTree}
 use Rattle.dt_live.specs.Placed.Tables.{rows_in}
+use Rattle.dt_build.specs.Edit.DtcFaultPlaces.{dtc_items_place}
 use Rattle.dt_build.specs.Edit.Private.DtcEdited.{placed_of}
 use Rattle.dt_build.specs.Edit.Private.Ready.{IsReady}
 use Rattle.dt_build.proofs.EditLemmas.DtcItems.{IsReached}
@@ -19,4 +20,5 @@ invariant-loop-item l = record {
   ready : IsReady l.fragments l.extensions (map item_view (drop l.item-index l.items));
   rest : dtc_items l.plugin (map item_view (drop l.item-index l.items)) (placed_of l.placed)
       ≡ dtc_items l.plugin (map item_view l.items) nothing;
+  place : dtc_items_place l.plugin (drop l.item-index l.items) (placed_of l.placed) ≡ dtc_items_place l.plugin l.items nothing;
 }

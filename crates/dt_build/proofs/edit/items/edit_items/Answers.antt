@@ -6,8 +6,10 @@ use Rattle.dt_source.specs.declared.tree.Item.{Item}
 use Rattle.dt_source.specs.Tree.{item_view}
 use Rattle.dt_source.specs.TreeMeaning.Edits.{counted}
 use Rattle.dt_source.specs.TreeMeaning.Statements.{after_item, after_items}
+use Rattle.dt_build.specs.Edit.FaultPlaces.{items_place}
 use Rattle.dt_build.specs.Edit.Private.Ready.{IsReady}
 use Rattle.dt_build.specs.Edit.Said.{tree_of}
+use Rattle.dt_build.proofs.EditLemmas.FaultPlaces.{items-place-goes-on, items-place-stops}
 use Rattle.dt_build.proofs.EditLemmas.Faults.{fault-same, fault-then}
 use Rattle.dt_build.proofs.EditLemmas.ItemSteps.{items-go-on}
 use Rattle.dt_build.proofs.EditLemmas.Readiness.{ready-next}
@@ -35,6 +37,9 @@ loop-item-preserved c =
       rest = items-go-on c.args.plugin item left (counted c.loop-item.made.count (tree_of c.loop-item.live)) (counted c.edit_item.new.made.count (tree_of c.edit_item.new.live))
           (after_items c.args.plugin (map item_view items) (tree_of c.args.live.now))
           (sym (ap (λ xs. after_items c.args.plugin (map item_view xs) (counted c.loop-item.made.count (tree_of c.loop-item.live))) next) ∙ i.rest) e.item;
+      place = items-place-goes-on c.args.plugin c.item-item.result (drop (at + 1) items) (counted c.loop-item.made.count (tree_of c.loop-item.live)) (items_place c.args.plugin items (tree_of c.args.live.now))
+          (sym (ap (λ xs. items_place c.args.plugin xs (counted c.loop-item.made.count (tree_of c.loop-item.live))) next) ∙ i.place)
+          (counted c.edit_item.new.made.count (tree_of c.edit_item.new.live)) e.item;
     }
 
 pub edit_item-requires-clause-ready : goal.edit_item-requires-clause-ready
@@ -64,3 +69,14 @@ returns-in-Err-clause-items c =
     fault-same c.in-Err.error.kind (then_do (after_item plugin item state) (after_items plugin left)) (after_items plugin (map item_view items) (tree_of c.args.live.now))
     (sym c.loop-item.invariant.rest ∙ ap (λ xs. after_items plugin (map item_view xs) state) next)
     (fault-then c.in-Err.error.kind (after_item plugin item state) (after_items plugin left) c.in-Err.ensures.item)
+
+pub returns-in-Err-clause-at : goal.returns-in-Err-clause-at
+returns-in-Err-clause-at c some =
+    let plugin = c.args.plugin in
+    let at = c.loop-item.item-index in
+    let items = c.args.items.now in
+    let state = counted c.loop-item.made.count (tree_of c.loop-item.live) in
+    let next : drop at items ≡ c.item-item.result ∷ drop (at + 1) items = drop-cons items at c.item-item.result c.loop-item-test.true ∙ ap₂ (λ a n. a ∷ drop n items) (sym c.item-item.is) (sym (add-one at)) in
+    c.in-Err.ensures.at some
+    ∙ items-place-stops plugin c.item-item.result (drop (at + 1) items) state (items_place plugin items (tree_of c.args.live.now))
+    (sym (ap (λ xs. items_place plugin xs state) next) ∙ c.loop-item.invariant.place) c.in-Err.error.kind some c.in-Err.ensures.item
