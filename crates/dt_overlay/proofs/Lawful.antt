@@ -16,7 +16,8 @@ use Rattle.dt_live.specs.ByRow.{is_named}
 use Rattle.dt_live.specs.Flattened.{IsWhole, Lent, lists}
 use Rattle.dt_live.proofs.WholeTrees.{whole-nodes-named, whole-properties-named}
 use Rattle.dt_overlay.specs.declared.fixup.patched_overlay.PatchedOverlay.{PatchedOverlay}
-use Rattle.dt_overlay.specs.Fixup.PatchedOverlay.{IsPatched, patched_lists, patched_from, value_at}
+use Rattle.dt_overlay.specs.Fixup.PatchedData.{IsPatched}
+use Rattle.dt_overlay.specs.Fixup.PatchedOverlay.{patched_lists, patched_from, value_at}
 use Rattle.dt_source.specs.OverlayMeaning.Fault.{Fault, PhandleClash, TooDeep}
 use Rattle.dt_source.specs.OverlayMeaning.Applied.{clashes, merged, moved, moved_value, with_node, with_nodes, with_values}
 use Rattle.dt_overlay.specs.Private.Merging.{merged_at, part_below}

@@ -13,7 +13,8 @@ use Rattle.dt_live.specs.Rows.{no_property, node_path, path_of, property_at}
 use Rattle.dt_live.specs.Flattened.{IsOrdered, IsWhole, Lent, lists, nodes_from}
 use Rattle.dt_live.proofs.Steps.{left-item}
 use Rattle.dt_overlay.specs.declared.fixup.patched_overlay.PatchedOverlay.{PatchedOverlay}
-use Rattle.dt_overlay.specs.Fixup.PatchedOverlay.{IsPatched, patched_lists, patched_from, value_at}
+use Rattle.dt_overlay.specs.Fixup.PatchedData.{IsPatched}
+use Rattle.dt_overlay.specs.Fixup.PatchedOverlay.{patched_lists, patched_from, value_at}
 use Rattle.dt_source.specs.OverlayMeaning.Applied.{moved, moved_value}
 use Rattle.dt_overlay.specs.declared.part.Part.{Part}
 use Rattle.dt_overlay.specs.Private.Merging.{IsInside, IsPart, IsPartOf, part_below}
@@ -125,7 +126,7 @@ drop-length (suc j) (r ∷ rs) le = let h = drop-length j rs (omega arith) in om
 abbrev pub values_left : PatchedOverlay → ℕ → Path → ℕ → List (Definition (List ℕ))
 values_left s b t j = map (moved_value t) (filter (λ e. is_within (node_path s.live b) e.path) (patched_from (path_of s.live.nodes.items) (value_at s) j (drop j s.live.properties.items)))
 
-module _ (s : PatchedOverlay) (sound : IsPatched s) (ordered : IsOrdered s.live) (p : Part) (part : IsPartOf s.live p) (t : Path) where
+module _ (s : PatchedOverlay) (sound : IsPatched s) (p : Part) (part : IsPartOf s.live p) (t : Path) where
   abbrev over : LiveTree Lent
   over = s.live
 
@@ -142,7 +143,7 @@ module _ (s : PatchedOverlay) (sound : IsPatched s) (ordered : IsOrdered s.live)
   values-start =
       let from : 0 + p.first ≡ p.first = omega arith in
       ap (map (moved_value t)) (skip-values at_b (path_of over.nodes.items) (value_at s) p.first 0 ps part.first.known
-      (λ i lt. none-before over sound.whole ordered p.body part.known part.top (property_at ps i).node (property_at ps i).node (omega arith) (part.first.before i lt)))
+      (λ i lt. none-before over sound.whole sound.ordered p.body part.known part.top (property_at ps i).node (property_at ps i).node (omega arith) (part.first.before i lt)))
       ∙ ap (λ k. map (moved_value t) (filter (λ e. at_b e.path) (patched_from (path_of over.nodes.items) (value_at s) k (drop p.first ps)))) from
 
   pub values-step : (j : ℕ) (r : PropertyRow Lent) → p.first ≤ j → j < p.last → r ≡ property_at ps j
@@ -153,7 +154,7 @@ module _ (s : PatchedOverlay) (sound : IsPatched s) (ordered : IsOrdered s.live)
       let low = part.first.behind j from under in
       let high = part.last.before j lt in
       let in' : at_b (node_path over r.node) ≡ true = ap (λ x. at_b (node_path over x.node)) at
-      ∙ all-inside over sound.whole ordered p.body part.known part.top p.end part.nodes.known part.nodes.inside (property_at ps j).node (property_at ps j).node (omega arith) low high in
+      ∙ all-inside over sound.whole sound.ordered p.body part.known part.top p.end part.nodes.known part.nodes.inside (property_at ps j).node (property_at ps j).node (omega arith) low high in
       ap (λ rs. map (moved_value t) (filter (λ e. at_b e.path) (patched_from (path_of over.nodes.items) (value_at s) j rs))) item
       ∙ ap (λ x. map (moved_value t) (if x then definition (node_path over r.node) r.name.now (value_at s j) ∷ rest else rest)) in' where
         rest : List (Definition (List ℕ))
@@ -169,4 +170,4 @@ module _ (s : PatchedOverlay) (sound : IsPatched s) (ordered : IsOrdered s.live)
       let behind = part.last.behind j (omega arith) under in
       let at : n ≡ p.end + (n - p.end) = omega (arith, behind) in
       ap (λ x. at_b (node_path over x.node)) (at-drop p.last ps i)
-      ∙ none-behind over sound.whole ordered p.body part.known part.top p.end part.nodes (n - p.end) n at (node-known j)))
+      ∙ none-behind over sound.whole sound.ordered p.body part.known part.top p.end part.nodes (n - p.end) n at (node-known j)))

@@ -10,10 +10,11 @@ use Rattle.dt_source.specs.TreeMeaning.Paths.{Path}
 use Rattle.dt_live.specs.declared.live_tree.LiveTree.{LiveTree}
 use Rattle.dt_live.specs.declared.live_tree.PropertyRow.{PropertyRow}
 use Rattle.dt_live.specs.Rows.{HasSameNodes, node_path, path_of, property_at, state_of}
-use Rattle.dt_live.specs.Flattened.{IsOrdered, Lent, lists, plain}
+use Rattle.dt_live.specs.Flattened.{Lent, lists, plain}
 use Rattle.dt_live.proofs.Steps.{put-plain}
 use Rattle.dt_overlay.specs.declared.fixup.patched_overlay.PatchedOverlay.{PatchedOverlay}
-use Rattle.dt_overlay.specs.Fixup.PatchedOverlay.{IsPatched, value_at}
+use Rattle.dt_overlay.specs.Fixup.PatchedData.{IsPatched}
+use Rattle.dt_overlay.specs.Fixup.PatchedOverlay.{value_at}
 use Rattle.dt_source.specs.OverlayMeaning.Applied.{clashes, moved, with_values}
 use Rattle.dt_overlay.specs.declared.part.Part.{Part}
 use Rattle.dt_overlay.specs.Private.Merging.{AreBaseNodes, IsPartOf, IsBaseNode}
@@ -26,7 +27,7 @@ first-last over p part = elim (cases_lt p.last p.first) [
   | inr from ↦ omega (arith, from)
 ]
 
-module _ (s : PatchedOverlay) (sound : IsPatched s) (ordered : IsOrdered s.live) (p : Part) (part : IsPartOf s.live p) (t : Path)
+module _ (s : PatchedOverlay) (sound : IsPatched s) (p : Part) (part : IsPartOf s.live p) (t : Path)
     (d : LiveTree Lent) (base_nodes : List ℕ) (placed : AreBaseNodes s.live d t p.body p.end base_nodes)
     (j : ℕ) (from : p.first ≤ j) (lt : j < p.last) (r : PropertyRow Lent) (row : r ≡ property_at s.live.properties.items j) where
   pub own-base_node : IsBaseNode s.live d t r.node (get_or base_nodes r.node 0)
@@ -43,7 +44,7 @@ module _ (s : PatchedOverlay) (sound : IsPatched s) (ordered : IsOrdered s.live)
       → list_any (clashes es) (values_left s p.body t j) ≡ (b || list_any (clashes es) (values_left s p.body t (j + 1)))
   clash-step es b e =
       let rest = list_any (clashes es) (values_left s p.body t (j + 1)) in
-      ap (list_any (clashes es)) (values-step s sound ordered p part t j r from lt row)
+      ap (list_any (clashes es)) (values-step s sound p part t j r from lt row)
       ∙ ap (λ q. (bytes_eq r.name.now (codes "phandle") && is_some (value_in es q r.name.now)) || rest) (sym own-base_node.path)
       ∙ ap (λ x. x || rest) (sym e)
 
@@ -56,4 +57,4 @@ module _ (s : PatchedOverlay) (sound : IsPatched s) (ordered : IsOrdered s.live)
       (ap (λ x. map plain x.properties) state ∙ put-plain (node_path d0 base_node) r.name.now v (state_of d0).properties
       ∙ ap (λ q. put q r.name.now v.now (lists d0).properties) here
       ∙ ap (λ w. put (moved t (node_path s.live r.node)) r.name.now w (lists d0).properties) value)
-      ∙ ap (λ xs. with_values xs (lists d0).properties) (sym (values-step s sound ordered p part t j r from lt row))
+      ∙ ap (λ xs. with_values xs (lists d0).properties) (sym (values-step s sound p part t j r from lt row))

@@ -4,30 +4,32 @@ use Rattle.std.specs.Prelude.{All}
 use Rattle.std.specs.List.{filter, flat_map, list_all, list_any}
 use Rattle.std.specs.Str.{bytes_eq}
 use Rattle.std.proofs.lemmas.Bool.{and_parts, and_from}
-use Rattle.dt_tree.specs.Sound.{is_among, are_distinct}
+use Rattle.dt_tree.specs.NodeData.{NodeData}
+use Rattle.dt_tree.specs.PathMap.{path_map}
+use Rattle.dt_tree.specs.Sound.{IsSound, is_among, are_distinct}
 use Rattle.dt_tree.proofs.SeenNames.{bytes_eq-comm}
 use Rattle.dt_source.specs.TreeMeaning.Paths.{Path, same_path, is_listed}
 use Rattle.dt_source.specs.TreeMeaning.Names.{symbols_name}
 use Rattle.dt_source.specs.TreeMeaning.Edits.{definition, is_of, put}
 use Rattle.dt_source.specs.TreeMeaning.Resolved.{Resolved}
-use Rattle.dt_source.specs.TreeMeaning.MapOf.{value_in}
+use Rattle.dt_source.specs.TreeMeaning.MapOf.{map_of, value_in}
 use Rattle.dt_live.proofs.BuilderLemmas.PathFacts.{not-true, or-false, same-itself, same-is}
 use Rattle.dt_live.specs.declared.live_tree.LiveTree.{LiveTree}
 use Rattle.dt_live.specs.declared.live_tree.PropertyRow.{PropertyRow}
 use Rattle.dt_live.specs.Rows.{path_of}
-use Rattle.dt_live.specs.Builder.Sizes.{size_in}
+use Rattle.dt_live.specs.Builder.Sizes.{size_below, size_in}
 use Rattle.dt_live.proofs.BuilderLemmas.SizesOfMaps.{are_once, of-comm, of-is, of-itself, once-by_names, sizes-by_values, sizes-of-lists}
 use Rattle.dt_live.specs.ByRow.{defined_by}
 use Rattle.dt_live.specs.Flattened.{IsWhole, Lent, lists}
 use Rattle.dt_live.proofs.WholeTrees.{all-entries}
 use Rattle.dt_overlay.specs.declared.fixup.patched_overlay.PatchedOverlay.{PatchedOverlay}
-use Rattle.dt_overlay.specs.Fixup.PatchedOverlay.{IsPatched, patched_lists, patched_from, value_at}
+use Rattle.dt_overlay.specs.Fixup.PatchedData.{IsPatched}
+use Rattle.dt_overlay.specs.Fixup.PatchedOverlay.{patched_lists, patched_from, value_at}
 use Rattle.dt_source.specs.OverlayMeaning.Applied.{symbol_path, with_fragment, with_node}
 use Rattle.dt_source.specs.OverlayMeaning.Shifted.{Value, fragments}
 use Rattle.dt_tree.specs.Steps.{fold}
 use Rattle.dt_source.specs.OverlayMeaning.Texts.{ended_path}
-use Rattle.dt_overlay.specs.Private.Applying.{HasSymbols}
-use Rattle.dt_overlay.specs.Private.Symbols.{symbol_at, symbols_of, with_all, with_symbol}
+use Rattle.dt_overlay.specs.Private.Symbols.{applied_over, symbol_at, symbols_of, with_all, with_symbol}
 use Rattle.dt_overlay.proofs.ApplySteps.{applied-is}
 use Rattle.dt_overlay.proofs.MakingApart.{own-apart}
 use Rattle.dt_overlay.proofs.Sizes.{live-there}
@@ -234,6 +236,13 @@ patched-apart s is =
     ∙ own-apart d w S
 
 -- ---- the base's rows with the fragments merged
+-- nothing is refused, and the result is no shorter than its symbols' values, nor is a tree with its map
+pub record HasSymbols (base over : Resolved) : Type 0 where
+  pub lists : Resolved
+  pub result : applied_over base over ≡ Ok lists
+  pub symbols : size_in (symbols_of base over) ≤ size_in lists.properties
+  pub trees : (b : NodeData) → IsSound b → path_map b ≡ map_of lists → size_in lists.properties ≤ size_below b
+
 pub has-symbols : (base : Resolved) (s : PatchedOverlay) → IsPatched s → (d : LiveTree Lent) → IsWhole d → fold (with_fragment base (patched_lists s)) (fragments (patched_lists s)) base ≡ Ok (lists d) → HasSymbols base (patched_lists s)
 has-symbols base s is d w folded =
     let o = patched_lists s in

@@ -71,13 +71,27 @@ pub record HoldsItsNode (base : Resolved) (shifted : List Value) (f : Fixup) : T
   pub named : symbol_phandle base f.symbol ≡ Some phandle
   pub there : bytes_at shifted f.at ≡ Some (to_be_bytes w32 phandle)
 
+-- each phandle is greater by the shift
+abbrev pub HasGreaterPhandles : Resolved → List Value → List Value → Type 0
+HasGreaterPhandles base old new =
+    (p : Path) (n : ℕ) → phandle_there old p ≡ Some n → value_in new p (codes "phandle") ≡ Some (greater base n)
+
+-- and so is the number at a place
+abbrev pub IsGreaterAt : Resolved → List Value → List Value → Site → Type 0
+IsGreaterAt base old new a = bytes_at new a ≡ Some (greater base (number_at a old))
+
+-- a byte is as it was where no phandle and no place has it
+abbrev pub KeepsElsewhere : List Value → List Value → Type 0
+KeepsElsewhere old new =
+    (p : Path) (n : List ℕ) (i : ℕ) → IsElsewhere old p n i → byte_at new p n i ≡ byte_at old p n i
+
 pub record IsShifted (base over shifted : Resolved) : Type 0 where
   pub nodes : shifted.nodes ≡ over.nodes
   pub properties : map shape shifted.properties ≡ map shape over.properties
-  pub phandles : (p : Path) (n : ℕ) → phandle_there over.properties p ≡ Some n → value_in shifted.properties p (codes "phandle") ≡ Some (greater base n)
-  pub local : All (λ a. bytes_at shifted.properties a ≡ Some (greater base (number_at a over.properties))) (local_places over.properties)
+  pub phandles : HasGreaterPhandles base over.properties shifted.properties
+  pub local : All (IsGreaterAt base over.properties shifted.properties) (local_places over.properties)
   pub fixups : All (HoldsItsNode base shifted.properties) (fixup_places over.properties)
-  pub others : (p : Path) (n : List ℕ) (i : ℕ) → IsElsewhere over.properties p n i → byte_at shifted.properties p n i ≡ byte_at over.properties p n i
+  pub others : KeepsElsewhere over.properties shifted.properties
 
 abbrev pub ShiftedByPlaces : Type 0
 ShiftedByPlaces = (base over shifted : Resolved) → shifted_overlay base over ≡ Ok shifted → IsShifted base over shifted

@@ -3,9 +3,9 @@ ghost use Rattle.std.specs.Prelude.{◌≡◌, ◌<◌, ◌-◌, ◌^◌, [], If
 ghost use Rattle.dt_source.specs.OverlayMeaning.Shifted.{shifted_overlay};
 ghost use Rattle.dt_live.specs.Builder.Lists.{lists_of};
 ghost use Rattle.dt_live.specs.Builder.Standing.{AreNodes};
-ghost use Rattle.dt_live.specs.Flattened.{IsOrdered, IsWhole, lists};
+ghost use Rattle.dt_live.specs.Flattened.{IsWhole, lists};
 ghost use Rattle.dt_overlay.specs.Fixup.OverlayFault.{Gives};
-ghost use Rattle.dt_overlay.specs.Fixup.PatchedOverlay.{IsPatched, patched_lists};
+ghost use Rattle.dt_overlay.specs.Fixup.PatchedOverlay.{patched_lists};
 ghost use Rattle.dt_overlay.specs.Applied.{Applies, AppliesWithin, applied_lists};
 ghost use Rattle.dt_overlay.specs.Private.Additions.{AreItsSymbols};
 ghost use Rattle.dt_overlay.specs.Private.Applying.{AnswersRoot, Exceeds, Fits, HasMap};
@@ -39,8 +39,6 @@ fn find_additions<'t>(
     limit: usize,
 ) -> Result<Additions<'t>, AllocError>
     requires base { IsWhole rows.now }
-    requires patched { IsPatched patched.now }
-    requires ordered { IsOrdered patched.now.live }
     ensures fragments { IfOk result (λ additions. AreItsFragments rows.now patched.now additions.list.items) }
     ensures symbols { IfOk result (λ additions. AreItsSymbols rows.now patched.now limit additions.symbols) }
 {
@@ -89,12 +87,11 @@ fn merged_root<'s, 't>(
 ) -> Result<Option<Node>, OverlayError>
     requires base { IsWhole rows }
     requires nodes { AreNodes (lists rows).nodes }
-    requires patched { IsPatched patched.now }
-    requires ordered { IsOrdered patched.now.live }
     requires fragments { AreItsFragments rows patched.now additions.now.list.items }
     requires symbols { AreItsSymbols rows patched.now limit additions.now.symbols }
     ensures { AnswersRoot (applied_rows rows.entry patched.now) limit result }
 {
+    patched.check();
     let mut live = rows;
     merge_fragments(alloc, &mut live, patched, additions.list.as_slice())?;
     let symbols = match &additions.symbols {
@@ -115,8 +112,6 @@ fn patched_root<'t>(
 ) -> Result<Option<Node>, OverlayError>
     requires base { IsWhole rows }
     requires nodes { AreNodes (lists rows).nodes }
-    requires patched { IsPatched patched.now }
-    requires ordered { IsOrdered patched.now.live }
     ensures { AnswersRoot (applied_rows rows.entry patched.now) limit result }
 {
     match find_additions(alloc, &rows, patched, limit) {
@@ -137,8 +132,6 @@ fn patched_overlay<'t>(
 ) -> Result<PatchedOverlay<'t>, OverlayError>
     requires { IsWhole rows.now }
     ensures patched { Gives (shifted_overlay (lists rows.now) (lists_of overlay.now.root)) patched_lists result }
-    ensures sound { IfOk result (λ patched. IsPatched patched) }
-    ensures ordered { IfOk result (λ patched. IsOrdered patched.live) }
 {
     let over = flatten(alloc, hasher, overlay)?;
     shift(alloc, rows, over)

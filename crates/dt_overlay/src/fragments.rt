@@ -1,10 +1,9 @@
 //! The fragments of an overlay, and the nodes of the base that they target.
 ghost use Rattle.std.specs.Prelude.{◌≡◌, ◌<◌, IfOk, OnOk, length, option_map};
 ghost use Rattle.dt_live.specs.Rows.{IsNode, node_path};
-ghost use Rattle.dt_live.specs.Flattened.{IsOrdered, IsWhole, lists};
+ghost use Rattle.dt_live.specs.Flattened.{IsWhole, lists};
 ghost use Rattle.dt_source.specs.OverlayMeaning.Applied.{standing};
 ghost use Rattle.dt_source.specs.OverlayMeaning.Texts.{ended_path};
-ghost use Rattle.dt_overlay.specs.Fixup.PatchedOverlay.{IsPatched};
 ghost use Rattle.dt_overlay.specs.Private.Fragments.{AreItsFragments, ArePhandles, IsBodyAt, IsTarget, NotesFirst, node_by, target_of};
 
 use crate::fixup::{PatchedOverlay, TargetFault, ended_path, row_phandle};
@@ -28,14 +27,13 @@ pub(crate) fn find_fragments<'t>(
     patched: &PatchedOverlay<'t>,
 ) -> Result<Vec<Fragment>, AllocError>
     requires base { IsWhole base.now }
-    requires patched { IsPatched patched.now }
-    requires ordered { IsOrdered patched.now.live }
     ensures { IfOk result (λ list. AreItsFragments base.now patched.now list.items) }
 {
+    patched.check();
     let phandles = phandle_nodes(alloc, base)?;
     let mut list = Vec::new(alloc);
-    for row in 0..patched.live.nodes().len() {
-        if let Some(body) = fragment_body(&patched.live, row) {
+    for row in 0..patched.nodes().len() {
+        if let Some(body) = fragment_body(patched.live(), row) {
             let node = row + 1;
             let target = find_target(base, patched, &phandles, node);
             list.push(Fragment { node, body, target })?;
@@ -91,15 +89,15 @@ fn find_target<'t>(
     fragment: usize,
 ) -> Option<usize>
     requires base { IsWhole base.now }
-    requires patched { IsPatched patched.now }
     requires phandles { ArePhandles base.now phandles.now }
     requires known { IsNode patched.now.live fragment }
     ensures target { option_map (node_path base.now) result ≡ target_of base.now patched.now fragment }
     ensures known { IsTarget base.now result }
 {
-    match patched.live.property(fragment, b"target".as_slice()) {
+    patched.check();
+    match patched.property(fragment, b"target".as_slice()) {
         Some(row) => by_phandle(phandles, patched.value(row)),
-        None => match patched.live.property(fragment, b"target-path".as_slice()) {
+        None => match patched.property(fragment, b"target-path".as_slice()) {
             Some(row) => by_path(base, patched.value(row)),
             None => None,
         },
@@ -128,16 +126,16 @@ fn by_path<'t>(base: &LiveTree<'t, &'t [u8]>, value: &'t [u8]) -> Option<usize>
 
 /// Why the fragment of a node has no target, by its properties as they are after the fixups.
 pub(crate) fn target_fault(patched: &PatchedOverlay<'_>, fragment: usize) -> TargetFault
-    requires patched { IsPatched patched.now }
     requires known { IsNode patched.now.live fragment }
 {
-    if let Some(row) = patched.live.property(fragment, b"target".as_slice()) {
+    patched.check();
+    if let Some(row) = patched.property(fragment, b"target".as_slice()) {
         return match cell_in(patched.value(row)) {
             None => TargetFault::NoCell,
             Some(phandle) => TargetFault::NoPhandle(phandle),
         };
     }
-    match patched.live.property(fragment, b"target-path".as_slice()) {
+    match patched.property(fragment, b"target-path".as_slice()) {
         None => TargetFault::NoProperty,
         Some(row) => match ended_path(patched.value(row)) {
             None => TargetFault::NoPath,

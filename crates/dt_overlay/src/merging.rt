@@ -2,8 +2,7 @@
 ghost use Rattle.std.specs.Prelude.{◌≡◌, ◌+◌, OnOk, length};
 ghost use Rattle.dt_live.specs.ByRow.{KeepsRows};
 ghost use Rattle.dt_live.specs.Rows.{IsLiveTree, state_of};
-ghost use Rattle.dt_live.specs.Flattened.{IsOrdered, IsWhole};
-ghost use Rattle.dt_overlay.specs.Fixup.PatchedOverlay.{IsPatched};
+ghost use Rattle.dt_live.specs.Flattened.{IsWhole};
 ghost use Rattle.dt_overlay.specs.Private.Fragments.{AreItsFragments};
 ghost use Rattle.dt_overlay.specs.Private.Merging.{AreKept, IsMergeable, MergesAll, MergesFragment};
 
@@ -21,13 +20,12 @@ pub(crate) fn merge_fragments<'s, 't>(
     list: &[Fragment],
 ) -> Result<(), OverlayError>
     requires base { IsWhole live.old }
-    requires patched { IsPatched patched.now }
-    requires ordered { IsOrdered patched.now.live }
     requires fragments { AreItsFragments live.old patched.now list.now }
     ensures whole { OnOk result (IsWhole live.new) }
     ensures merged { MergesAll patched.now live.old live.new result }
 {
-    let mut base_nodes = vec![in alloc; 0; patched.live.nodes().len() + 1]?;
+    patched.check();
+    let mut base_nodes = vec![in alloc; 0; patched.nodes().len() + 1]?;
     for fragment in list {
         merge_fragment(live, patched, *fragment, base_nodes.as_mut_slice())?;
     }
@@ -41,8 +39,6 @@ fn merge_fragment<'s, 't>(
     fragment: Fragment,
     base_nodes: &mut [usize],
 ) -> Result<(), OverlayError>
-    requires patched { IsPatched patched.now }
-    requires ordered { IsOrdered patched.now.live }
     requires sound { IsLiveTree live.old }
     requires rows { IsMergeable patched.now.live live.old fragment }
     requires room { length base_nodes.old ≡ length patched.now.live.nodes.items + 1 }

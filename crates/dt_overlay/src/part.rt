@@ -2,8 +2,7 @@
 ghost use Rattle.std.specs.Prelude.{◌≡◌, ◌+◌, ◌||◌, IfOk, OnOk, is_some, length, nat_lt, slice_index_or, true};
 ghost use Rattle.dt_live.specs.ByRow.{KeepsRows};
 ghost use Rattle.dt_live.specs.Rows.{HasSameNodes, IsLiveTree, IsNode, is_standing, node_path, state_of};
-ghost use Rattle.dt_live.specs.Flattened.{IsOrdered, lists};
-ghost use Rattle.dt_overlay.specs.Fixup.PatchedOverlay.{IsPatched};
+ghost use Rattle.dt_live.specs.Flattened.{lists};
 ghost use Rattle.dt_overlay.specs.Private.Merging.{AreByNode, AreKept, ArePartNodes, DefinesPart, IsFirst, IsPart, IsPartOf, MergesPart, NotesBaseNodes, SetsPart, has_clash, is_clash, is_deep, part_at};
 
 use crate::fixup::{Clash, OverlayError, PatchedOverlay};
@@ -22,8 +21,6 @@ pub(crate) fn define_nodes<'s, 't>(
     body: usize,
     base_nodes: &mut [usize],
 ) -> Result<(usize, Option<usize>), AllocError>
-    requires patched { IsPatched patched.now }
-    requires ordered { IsOrdered patched.now.live }
     requires body { IsNode patched.now.live body }
     requires top { length (node_path patched.now.live body) ≡ 2 }
     requires room { length base_nodes.old ≡ length patched.now.live.nodes.items + 1 }
@@ -40,7 +37,8 @@ pub(crate) fn define_nodes<'s, 't>(
     ensures deep { IfOk result (λ x. is_some x.1 ≡ is_deep (part_at patched.now body base_nodes.old live.old)) }
     ensures base_nodes { NotesBaseNodes patched.now.live body live.old base_nodes.old live.new base_nodes.new result }
 {
-    let nodes = patched.live.nodes();
+    patched.check();
+    let nodes = patched.nodes();
     let mut deep = None;
     for node in body + 1..nodes.len() + 1 {
         let row = nodes[node - 1];
@@ -100,15 +98,14 @@ pub(crate) fn find_clash<'s, 't>(
     part: Part,
     base_nodes: &[usize],
 ) -> Option<usize>
-    requires patched { IsPatched patched.now }
-    requires ordered { IsOrdered patched.now.live }
     requires part { IsPartOf patched.now.live part }
     requires room { length base_nodes.now ≡ length patched.now.live.nodes.items + 1 }
     requires sound { IsLiveTree live.now }
     requires base_nodes { ArePartNodes patched.now.live live.now part base_nodes.now }
     ensures { is_some result ≡ has_clash live.now (part_at patched.now part.body base_nodes.now live.now) }
 {
-    let rows = patched.live.properties();
+    patched.check();
+    let rows = patched.properties();
     for at in part.first..part.last {
         let row = rows[at];
         if is_clash(live, base_nodes[row.node], row.name) {
@@ -125,8 +122,6 @@ pub(crate) fn set_properties<'s, 't>(
     part: Part,
     base_nodes: &[usize],
 ) -> Result<(), AllocError>
-    requires patched { IsPatched patched.now }
-    requires ordered { IsOrdered patched.now.live }
     requires part { IsPartOf patched.now.live part }
     requires room { length base_nodes.now ≡ length patched.now.live.nodes.items + 1 }
     requires sound { IsLiveTree live.old }
@@ -137,7 +132,8 @@ pub(crate) fn set_properties<'s, 't>(
     ensures labels { OnOk result ((state_of live.new).labels ≡ (state_of live.old).labels) }
     ensures properties { OnOk result (SetsPart patched.now part.body base_nodes.now live.old live.new) }
 {
-    let rows = patched.live.properties();
+    patched.check();
+    let rows = patched.properties();
     for at in part.first..part.last {
         let row = rows[at];
         live.set_property(base_nodes[row.node], row.name, patched.value(at), STAMP)?;
@@ -153,8 +149,6 @@ pub(crate) fn merge_part<'s, 't>(
     body: usize,
     base_nodes: &mut [usize],
 ) -> Result<(), OverlayError>
-    requires patched { IsPatched patched.now }
-    requires ordered { IsOrdered patched.now.live }
     requires body { IsNode patched.now.live body }
     requires top { length (node_path patched.now.live body) ≡ 2 }
     requires room { length base_nodes.old ≡ length patched.now.live.nodes.items + 1 }
@@ -167,9 +161,10 @@ pub(crate) fn merge_part<'s, 't>(
     ensures labels { OnOk result ((state_of live.new).labels ≡ (state_of live.old).labels) }
     ensures merged { MergesPart patched.now body target live.old live.new result }
 {
+    patched.check();
     base_nodes[body] = target;
     let (end, deep) = define_nodes(live, patched, body, base_nodes)?;
-    let rows = patched.live.properties();
+    let rows = patched.properties();
     let part = Part {
         body,
         end,

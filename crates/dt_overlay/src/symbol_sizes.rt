@@ -5,7 +5,6 @@ ghost use Rattle.dt_source.specs.TreeMeaning.Paths.{same_path};
 ghost use Rattle.dt_live.specs.Rows.{IsGrown, path_of};
 ghost use Rattle.dt_live.specs.Builder.Sizes.{size_in};
 ghost use Rattle.dt_live.specs.Flattened.{IsWhole};
-ghost use Rattle.dt_overlay.specs.Fixup.PatchedOverlay.{IsPatched};
 ghost use Rattle.dt_overlay.specs.Private.Symbols.{symbol_said, symbols_over, text_below};
 ghost use Rattle.dt_overlay.specs.Private.SymbolTargets.{AreTargets};
 
@@ -20,13 +19,13 @@ pub(crate) fn symbols_size<'t>(
     targets: &[Option<usize>],
 ) -> usize
     requires base { IsWhole base.now }
-    requires patched { IsPatched patched.now }
     requires targets { AreTargets base.now patched.now targets.now }
     ensures { result ≡ min (size_in (symbols_over base.now patched.now)) (2 ^ 64 - 1) }
 {
+    patched.check();
     let mut size: usize = 0;
-    for row in 0..patched.live.properties().len() {
-        if is_symbols_node(patched.live.nodes(), patched.live.properties()[row].node) {
+    for row in 0..patched.properties().len() {
+        if is_symbols_node(patched.nodes(), patched.properties()[row].node) {
             size = size.saturating_add(symbol_size(base, patched, targets, row));
         }
     }
@@ -50,7 +49,6 @@ fn symbol_size<'t>(
     row: usize,
 ) -> usize
     requires base { IsWhole base.now }
-    requires patched { IsPatched patched.now }
     requires targets { AreTargets base.now patched.now targets.now }
     requires known { row < length patched.now.live.properties.items }
     ensures { result ≡ min (size_in (symbol_said base.now patched.now row [])) (2 ^ 64 - 1) }

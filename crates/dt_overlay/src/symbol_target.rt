@@ -2,8 +2,6 @@
 ghost use Rattle.std.specs.Prelude.{◌≡◌, ◌∷◌, length, slice_index_or, IfOk};
 ghost use Rattle.std.specs.List.{slice_split};
 ghost use Rattle.dt_tree.specs.Path.{behind_slashes, is_slash, path_names};
-ghost use Rattle.dt_live.specs.Flattened.{IsOrdered};
-ghost use Rattle.dt_overlay.specs.Fixup.PatchedOverlay.{IsPatched};
 ghost use Rattle.dt_overlay.specs.Private.SymbolTargets.{AreTargetsOf, IsSplit, LeadsTo, names_after, no_fragment};
 
 use crate::fixup::{PatchedOverlay, ended_path};
@@ -16,15 +14,14 @@ pub(crate) fn row_targets<'t>(
     patched: &PatchedOverlay<'t>,
     list: &[Fragment],
 ) -> Result<Vec<Option<usize>>, AllocError>
-    requires patched { IsPatched patched.now }
-    requires ordered { IsOrdered patched.now.live }
     ensures { IfOk result (λ targets. AreTargetsOf patched.now list.now targets.items) }
 {
-    let count = patched.live.nodes().len();
+    patched.check();
+    let count = patched.nodes().len();
     let mut targets = Vec::with_capacity(alloc, count)?;
     let mut used = 0;
     for row in 0..count {
-        if fragment_body(&patched.live, row).is_some() {
+        if fragment_body(patched.live(), row).is_some() {
             targets.push(target_of(list, used))?;
             used += 1;
         } else {
@@ -79,12 +76,12 @@ pub(crate) fn symbol_target<'v>(
     targets: &[Option<usize>],
     value: &'v [u8],
 ) -> Option<(usize, &'v [u8])>
-    requires patched { IsPatched patched.now }
     requires count { length targets.now ≡ length patched.now.live.nodes.items }
     ensures { LeadsTo patched.now targets.now value.now result }
 {
+    patched.check();
     let (fragment, rest) = split_body(ended_path(value)?)?;
-    let node = patched.live.child(0, fragment)?;
+    let node = patched.child(0, fragment)?;
     let target = targets[node - 1]?;
     Some((target, rest))
 }

@@ -4,7 +4,6 @@ ghost use Rattle.dt_tree.specs.Name.{is_name};
 ghost use Rattle.dt_live.specs.ByRow.{KeepsRows};
 ghost use Rattle.dt_live.specs.Rows.{IsLiveTree, IsGrown, state_of};
 ghost use Rattle.dt_live.specs.Flattened.{IsWhole, lists};
-ghost use Rattle.dt_overlay.specs.Fixup.PatchedOverlay.{IsPatched};
 ghost use Rattle.dt_overlay.specs.Private.SymbolTargets.{AreTargets};
 ghost use Rattle.dt_overlay.specs.Private.Symbols.{PutsSymbol, symbol_by_row, symbol_value, symbols_over, text_below, values_in, with_all};
 
@@ -29,14 +28,14 @@ pub(crate) fn find_symbols<'t>(
     targets: &[Option<usize>],
 ) -> Result<Vec<Symbol<'t>>, AllocError>
     requires base { IsWhole base.now }
-    requires patched { IsPatched patched.now }
     requires targets { AreTargets base.now patched.now targets.now }
     ensures named { IfOk result (λ symbols. All (λ s. is_name s.name.now ≡ true) symbols.items) }
     ensures symbols { IfOk result (λ symbols. map symbol_value symbols.items ≡ symbols_over base.now patched.now) }
 {
+    patched.check();
     let mut symbols = Vec::new(alloc);
-    for row in 0..patched.live.properties().len() {
-        if is_symbols_node(patched.live.nodes(), patched.live.properties()[row].node) {
+    for row in 0..patched.properties().len() {
+        if is_symbols_node(patched.nodes(), patched.properties()[row].node) {
             if let Some(symbol) = symbol_of(alloc, base, patched, targets, row)? {
                 symbols.push(symbol)?;
             }
@@ -75,17 +74,17 @@ fn symbol_of<'t>(
     row: usize,
 ) -> Result<Option<Symbol<'t>>, AllocError>
     requires base { IsWhole base.now }
-    requires patched { IsPatched patched.now }
     requires targets { AreTargets base.now patched.now targets.now }
     requires known { row < length patched.now.live.properties.items }
     ensures value { IfOk result (λ found. values_in found ≡ symbol_by_row base.now patched.now row) }
     ensures named { IfOk result (λ found. IfSome found (λ symbol. is_name symbol.name.now ≡ true)) }
 {
+    patched.check();
     match symbol_target(&*patched, targets, patched.value(row)) {
         None => Ok(None),
         Some((node, rest)) => {
             let value = symbol_text(alloc, base.nodes(), node, rest)?;
-            let name = patched.live.properties()[row].name;
+            let name = patched.properties()[row].name;
             Ok(Some(Symbol { name, value }))
         }
     }

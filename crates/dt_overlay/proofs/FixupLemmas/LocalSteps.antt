@@ -22,10 +22,11 @@ use Rattle.dt_overlay.specs.declared.fixup.patched_overlay.PatchedOverlay.{Patch
 use Rattle.dt_overlay.specs.declared.fixup.fixed_nodes.FixedNode.{FixedNode}
 use Rattle.dt_overlay.specs.declared.fixup.fixed_nodes.FixedNode.TheVariants.{NotLocal, Missing, Node}
 use Rattle.dt_overlay.specs.Fixup.OverlayFault.{IsFault}
-use Rattle.dt_overlay.specs.Fixup.PatchedOverlay.{IsPatched, change_at, patched_from, value_at}
+use Rattle.dt_overlay.specs.Fixup.PatchedData.{IsPatched}
+use Rattle.dt_overlay.specs.Fixup.PatchedOverlay.{change_at, patched_from, value_at}
 use Rattle.dt_overlay.specs.Fixup.Private.Steps.{IsAt, is_marked}
 use Rattle.dt_overlay.specs.Fixup.Private.FixedNodes.{IsFixedNode}
-use Rattle.dt_overlay.specs.Fixup.Private.Walk.{IsReached, property_step}
+use Rattle.dt_overlay.specs.Fixup.Private.Walk.{property_step}
 use Rattle.dt_overlay.proofs.FixupLemmas.LookUps.{listed-values, row-there, value-no-node, value-some}
 use Rattle.dt_overlay.proofs.FixupLemmas.RowSites.{row_site, writes-at}
 use Rattle.dt_overlay.proofs.FixupLemmas.OpenRows.{not-there, refused-closed}
@@ -40,6 +41,10 @@ fault-then (Bad entry fault) r g h = ap (λ z. then_do z g) h
 fault-then (Overflow place phandle shift) r g h = ap (λ z. then_do z g) h
 fault-then (PhandleClash clash) r g h = ap (λ z. then_do z g) h
 fault-then (TooDeep node target) r g h = ap (λ z. then_do z g) h
+
+-- so far a loop has come: what is left gives what all would give
+abbrev pub IsReached : (Shifting → Result Shifting Fault) → (Shifting → Result Shifting Fault) → PatchedOverlay → PatchedOverlay → Type 0
+IsReached all rest s t = (x : Shifting) → IsAt x s → (y : Shifting) × (all x ≡ rest y) × IsAt y t
 
 pub reached-start : (f : Shifting → Result Shifting Fault) (s : PatchedOverlay) → IsReached f f s s
 reached-start f s = λ x at. (x, refl, at)

@@ -17,7 +17,8 @@ use Rattle.dt_live.specs.Flattened.{Lent, IsWhole}
 use Rattle.dt_live.proofs.WholeTrees.{one-number}
 use Rattle.dt_source.specs.OverlayMeaning.Shifted.{Site, site, Shifting, are_apart, write_at, written}
 use Rattle.dt_overlay.specs.declared.fixup.patched_overlay.PatchedOverlay.{PatchedOverlay}
-use Rattle.dt_overlay.specs.Fixup.PatchedOverlay.{IsPatched, change_at, patched_lists, patched_from, value_at}
+use Rattle.dt_overlay.specs.Fixup.PatchedData.{IsPatched}
+use Rattle.dt_overlay.specs.Fixup.PatchedOverlay.{change_at, patched_lists, patched_from, value_at}
 use Rattle.dt_overlay.specs.Fixup.Private.Marks.{is_inside, is_taken}
 use Rattle.dt_overlay.specs.Fixup.Private.Steps.{IsAt, covers, is_marked}
 use Rattle.dt_overlay.proofs.FixupLemmas.LookUps.{is_row}

@@ -14,7 +14,8 @@ use Rattle.dt_source.specs.OverlayMeaning.Shifted.{Fixup, Shifting, site, take_s
 use Rattle.dt_overlay.specs.declared.fixup.taken_sites.TakenSite.{TakenSite}
 use Rattle.dt_overlay.specs.declared.fixup.reading.NamedSite.{NamedSite}
 use Rattle.dt_overlay.specs.declared.fixup.patched_overlay.PatchedOverlay.{PatchedOverlay}
-use Rattle.dt_overlay.specs.Fixup.PatchedOverlay.{IsPatched, value_at}
+use Rattle.dt_overlay.specs.Fixup.PatchedData.{IsPatched}
+use Rattle.dt_overlay.specs.Fixup.PatchedOverlay.{value_at}
 use Rattle.dt_overlay.specs.Fixup.Private.Steps.{IsAt}
 use Rattle.dt_overlay.specs.Fixup.Private.Fixing.{fixup_named}
 use Rattle.dt_overlay.specs.Fixup.Private.TakenSites.{IsInside, fixup_taken}

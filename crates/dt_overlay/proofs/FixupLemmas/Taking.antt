@@ -5,7 +5,8 @@ use Rattle.dt_live.specs.Rows.{path_of, property_of, node_path}
 use Rattle.dt_source.specs.OverlayMeaning.Fault.{BadFixup}
 use Rattle.dt_source.specs.OverlayMeaning.Shifted.{Site, site, Shifting, are_apart, take_site}
 use Rattle.dt_overlay.specs.declared.fixup.patched_overlay.PatchedOverlay.{PatchedOverlay}
-use Rattle.dt_overlay.specs.Fixup.PatchedOverlay.{IsPatched, change_at, patched_lists, value_at}
+use Rattle.dt_overlay.specs.Fixup.PatchedData.{IsPatched}
+use Rattle.dt_overlay.specs.Fixup.PatchedOverlay.{change_at, patched_lists, value_at}
 use Rattle.dt_overlay.specs.Fixup.Private.Marks.{is_inside, is_taken}
 use Rattle.dt_overlay.specs.Fixup.Private.Steps.{IsAt, is_marked}
 use Rattle.dt_overlay.specs.Fixup.Private.Walk.{is_open}

@@ -1,5 +1,5 @@
 -- An overlay's rows with the values that were changed (dt-object-internal, section 2).
-use Rattle.std.specs.Prelude.{◌≡◌, ℕ, ◌+◌, List, [], ◌∷◌, length, Option, Some, None, Result, slice_index_or}
+use Rattle.std.specs.Prelude.{ℕ, ◌+◌, List, [], ◌∷◌, Option, Some, None, Result, slice_index_or}
 use Rattle.dt_source.specs.TreeMeaning.Paths.{Path}
 use Rattle.dt_source.specs.TreeMeaning.Edits.{Definition, definition}
 use Rattle.dt_source.specs.TreeMeaning.Resolved.{Resolved}
@@ -7,7 +7,7 @@ use Rattle.dt_live.specs.declared.live_tree.LiveTree.{LiveTree}
 use Rattle.dt_live.specs.declared.live_tree.PropertyRow.{PropertyRow}
 use Rattle.dt_live.specs.Rows.{path_of, property_at}
 use Rattle.dt_live.specs.ByRow.{lent}
-use Rattle.dt_live.specs.Flattened.{Lent, IsWhole, lists}
+use Rattle.dt_live.specs.Flattened.{Lent, lists}
 use Rattle.dt_source.specs.OverlayMeaning.Fault.{Fault}
 use Rattle.dt_source.specs.OverlayMeaning.Shifted.{shifted_overlay}
 use Rattle.dt_overlay.specs.declared.fixup.patched_overlay.Change.{Change}
@@ -20,7 +20,7 @@ value_with (Some c) v = c.bytes.items
 
 -- the change of a property
 abbrev pub change_at : PatchedOverlay → ℕ → Option Change
-change_at s k = slice_index_or s.changes.items k None
+change_at s k = slice_index_or s.changes k None
 
 -- the value of the property of row k
 abbrev pub value_at : PatchedOverlay → ℕ → List ℕ
@@ -45,8 +45,3 @@ properties_of s = (patched_lists s).properties
 -- what the meaning makes of an overlay's rows above those of its base
 abbrev pub shifted_rows : LiveTree Lent → LiveTree Lent → Result Resolved Fault
 shifted_rows base over = shifted_overlay (lists base) (lists over)
-
--- a patched overlay has room for the change of each property
-pub record IsPatched (s : PatchedOverlay) : Type 0 where
-  pub whole : IsWhole s.live
-  pub count : length s.changes.items ≡ length s.live.properties.items

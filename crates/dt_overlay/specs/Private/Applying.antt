@@ -11,7 +11,6 @@ use Rattle.dt_live.specs.Flattened.{Lent, lists}
 use Rattle.dt_source.specs.OverlayMeaning.Fault.{Fault}
 use Rattle.dt_overlay.specs.declared.fixup.error.OverlayError.{OverlayError}
 use Rattle.dt_overlay.specs.Fixup.OverlayFault.{IsFault}
-use Rattle.dt_overlay.specs.Private.Symbols.{applied_over, symbols_of}
 
 -- a root with the map that is meant, whose values fit
 pub record IsRoot (wanted : Result Resolved Fault) (limit : ℕ) (root : NodeData) : Type 0 where
@@ -32,13 +31,6 @@ pub record IsTooLong (wanted : Result Resolved Fault) (limit : ℕ) : Type 0 whe
 abbrev pub IsRootOrTooLong : Result Resolved Fault → ℕ → Option NodeData → Type 0
 IsRootOrTooLong wanted limit (Some root) = IsRoot wanted limit root
 IsRootOrTooLong wanted limit None = IsTooLong wanted limit
-
--- nothing is refused, and the result is no shorter than its symbols' values, nor is a tree with its map
-pub record HasSymbols (base over : Resolved) : Type 0 where
-  pub lists : Resolved
-  pub result : applied_over base over ≡ Ok lists
-  pub symbols : size_in (symbols_of base over) ≤ size_in lists.properties
-  pub trees : (b : NodeData) → IsSound b → path_map b ≡ map_of lists → size_in lists.properties ≤ size_below b
 
 -- a call answers the root of a tree that is meant, or has its fault
 abbrev pub AnswersRoot : Result Resolved Fault → ℕ → Result (Option NodeData) OverlayError → Type 0

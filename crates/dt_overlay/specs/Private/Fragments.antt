@@ -1,5 +1,5 @@
 -- Fragments by their rows (dt-object-internal, section 3).
-use Rattle.std.specs.Prelude.{◌≡◌, ◌≤◌, ◌+◌, ◌==◌, ℕ, List, [], ◌∷◌, length, Option, Some, None, MatchOption, codes, if◌then◌else◌, is_some, option_map}
+use Rattle.std.specs.Prelude.{◌≡◌, ◌+◌, ◌==◌, ℕ, List, [], ◌∷◌, length, Option, Some, None, MatchOption, codes, if◌then◌else◌, is_some, option_map}
 use Rattle.std.specs.BTreeMap.{BTreeMap, get}
 use Rattle.std.specs.Int.{from_be_bytes, w32}
 use Rattle.std.specs.Ordering.{nat_cmp}
@@ -33,11 +33,6 @@ AreFragments base s [] [] = Unit {0}
 AreFragments base s [] (f ∷ fs) = ⊥
 AreFragments base s (n ∷ ns) [] = ⊥
 AreFragments base s (n ∷ ns) (f ∷ fs) = IsFragment base s n f × AreFragments base s ns fs
-
--- a live tree in which the base's nodes keep their rows
-pub record IsAbove (base d : LiveTree Lent) : Type 0 where
-  pub more : length base.nodes.items ≤ length d.nodes.items
-  pub paths : (n : ℕ) → n ≤ length base.nodes.items → node_path d n ≡ node_path base n
 
 -- each phandle of the base leads to the first node that has it
 abbrev pub ArePhandles : LiveTree Lent → BTreeMap ℕ ℕ → Type 0

@@ -16,9 +16,14 @@ use Rattle.dt_overlay.specs.Fixup.PatchedOverlay.{patched_lists}
 use Rattle.dt_overlay.specs.declared.fragments.Fragment.{Fragment}
 use Rattle.dt_overlay.specs.Private.Fragments.{AreItsFragments, IsTarget}
 
+-- what a fragment of this name targets, nothing where there is none
+abbrev pub fragment_target : LiveTree Lent → PatchedOverlay → List ℕ → Option Path
+fragment_target base s f =
+    if is_listed (body f) (patched_lists s).nodes then target (lists base) (patched_lists s) f else None
+
 -- the base's node that a node of the overlay targets, where that is a fragment
 pub record IsRowTarget (base : LiveTree Lent) (s : PatchedOverlay) (n : ℕ) (t : Option ℕ) : Type 0 where
-  pub path : (f : List ℕ) → node_path s.live n ≡ f ∷ [] → option_map (node_path base) t ≡ (if is_listed (body f) (patched_lists s).nodes then target (lists base) (patched_lists s) f else None)
+  pub path : (f : List ℕ) → node_path s.live n ≡ f ∷ [] → option_map (node_path base) t ≡ fragment_target base s f
   pub known : IsTarget base t
 
 -- what stands behind the last fragment

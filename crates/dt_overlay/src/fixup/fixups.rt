@@ -1,7 +1,6 @@
 //! Fixups: the sites of the phandles of a base's nodes.
 ghost use Rattle.std.specs.Prelude.{◌≡◌};
 ghost use Rattle.dt_live.specs.Flattened.{IsWhole};
-ghost use Rattle.dt_overlay.specs.Fixup.PatchedOverlay.{IsPatched};
 ghost use Rattle.dt_overlay.specs.Fixup.Private.Fixing.{ResolvesFixups};
 
 use crate::fixup::error::OverlayError;
@@ -19,13 +18,11 @@ pub(crate) fn resolve_fixups<'t>(
     patched: &mut PatchedOverlay<'t>,
 ) -> Result<(), OverlayError>
     requires base { IsWhole base.now }
-    requires sound { IsPatched patched.old }
-    ensures sound { IsPatched patched.new }
     ensures live { patched.new.live ≡ patched.old.live }
     ensures fixups { ResolvesFixups base.now patched.old patched.new result }
 {
     let mut found = Vec::new(alloc);
-    if let Err(error) = read_fixups(&mut found, &patched.live) {
+    if let Err(error) = read_fixups(&mut found, patched.live()) {
         return Err(error);
     }
     let mut taken = Vec::new(alloc);

@@ -1,10 +1,6 @@
 //! Local fixups: the sites of an overlay's own phandles.
-ghost use Rattle.std.specs.Prelude.{◌≡◌, ◌<◌, ◌∷◌, [], true, length};
-ghost use Rattle.dt_source.specs.TreeMeaning.Names.{local_fixups_name};
-ghost use Rattle.dt_source.specs.TreeMeaning.Paths.{is_within};
-ghost use Rattle.dt_live.specs.Rows.{node_path};
-ghost use Rattle.dt_overlay.specs.Fixup.PatchedOverlay.{IsPatched};
-ghost use Rattle.dt_overlay.specs.Fixup.Private.FixedNodes.{IsFixedNodeOf, row_node};
+ghost use Rattle.std.specs.Prelude.{◌≡◌, ◌<◌, length};
+ghost use Rattle.dt_overlay.specs.Fixup.Private.FixedNodes.{IsFixedNodeOf, IsLocalFixup, row_node};
 ghost use Rattle.dt_overlay.specs.Fixup.Private.Walk.{IsStep, local_step, property_step, site_step, sites_step};
 
 use crate::fixup::error::OverlayError;
@@ -17,32 +13,44 @@ use crate::fixup::sites::take_site;
 use dt_tree::cell_at;
 use std::alloc::Global;
 
-fn cell_entry(property: usize, byte: usize) -> FixupEntry {
-    FixupEntry::Cell(ValuePlace { property, byte })
+/// A property below `/__local_fixups__`: its row, its node and name, and what the local fixups of that node are of.
+#[derive(Clone, Copy)]
+pub(crate) struct LocalFixup<'t> {
+    pub row: usize,
+    pub node: usize,
+    pub name: &'t [u8],
+    pub fixed_node: FixedNode,
+}
+
+impl LocalFixup<'_> {
+    /// The entry that begins at a byte of its value.
+    fn entry(&self, byte: usize) -> FixupEntry {
+        FixupEntry::Cell(ValuePlace {
+            property: self.row,
+            byte,
+        })
+    }
 }
 
 /// Raises the phandle at the site that a local fixup's entry names.
 fn raise_site<'t>(
     patched: &mut PatchedOverlay<'t>,
-    local_node: usize,
-    fixed_node: FixedNode,
-    name: &'t [u8],
+    fixup: LocalFixup<'t>,
+    entry: FixupEntry,
     offset: usize,
     shift: usize,
-    entry: FixupEntry,
 ) -> Result<(), OverlayError>
-    requires sound { IsPatched patched.old }
-    requires fixed_node { IsFixedNodeOf patched.old.live local_node fixed_node }
-    requires local_node { is_within (local_fixups_name ∷ []) (node_path patched.old.live local_node) ≡ true }
-    ensures sound { IsPatched patched.new }
+    requires fixup { IsLocalFixup patched.old.live fixup }
     ensures live { patched.new.live ≡ patched.old.live }
-    ensures step { IsStep (site_step shift patched.old local_node name.now offset) patched.old patched.new result }
+    ensures step { IsStep (site_step shift patched.old fixup.entry offset) patched.old patched.new result }
 {
-    let FixedNode::Node(node) = fixed_node else {
+    patched.check();
+    let FixedNode::Node(node) = fixup.fixed_node else {
         let fault = EntryFault::NoNode;
         return Err(OverlayError::BadFixup { entry, fault });
     };
-    let row = take_site(patched, node, name, offset, entry)?;
+    let row = take_site(patched, node, fixup.name, offset, entry)?;
+    patched.check();
     let place = ValuePlace {
         property: row,
         byte: offset,
@@ -55,36 +63,28 @@ fn raise_site<'t>(
     Ok(())
 }
 
-/// Raises the phandles at the sites that one property's local fixup names, the property of a row.
+/// Raises the phandles at the sites that the value of a local fixup names.
 fn raise_value<'t>(
     patched: &mut PatchedOverlay<'t>,
-    local_node: usize,
-    fixed_node: FixedNode,
-    name: &'t [u8],
+    fixup: LocalFixup<'t>,
     value: &[u8],
     shift: usize,
-    row: usize,
 ) -> Result<(), OverlayError>
-    requires sound { IsPatched patched.old }
-    requires fixed_node { IsFixedNodeOf patched.old.live local_node fixed_node }
-    requires local_node { is_within (local_fixups_name ∷ []) (node_path patched.old.live local_node) ≡ true }
-    ensures sound { IsPatched patched.new }
+    requires fixup { IsLocalFixup patched.old.live fixup }
     ensures live { patched.new.live ≡ patched.old.live }
-    ensures step { IsStep (sites_step shift patched.old local_node name.now value.now) patched.old patched.new result }
+    ensures step { IsStep (sites_step shift patched.old fixup.entry value.now) patched.old patched.new result }
 {
     let count = value.len() / 4;
     if count * 4 != value.len() {
         return Err(OverlayError::BadFixup {
-            entry: cell_entry(row, 0),
+            entry: fixup.entry(0),
             fault: EntryFault::NoCells,
         });
     }
     for k in 0..count {
         let offset = cell_at(value, k * 4) as usize;
-        let entry = cell_entry(row, k * 4);
-        if let Err(error) = raise_site(
-            patched, local_node, fixed_node, name, offset, shift, entry,
-        ) {
+        let entry = fixup.entry(k * 4);
+        if let Err(error) = raise_site(patched, fixup, entry, offset, shift) {
             return Err(error);
         }
     }
@@ -98,27 +98,23 @@ fn raise_local_fixup<'t>(
     row: usize,
     shift: usize,
 ) -> Result<(), OverlayError>
-    requires sound { IsPatched patched.old }
     requires known { row < length patched.old.live.properties.items }
     requires fixed_node { IsFixedNodeOf patched.old.live (row_node patched.old.live row) fixed_node }
-    ensures sound { IsPatched patched.new }
     ensures live { patched.new.live ≡ patched.old.live }
     ensures step { IsStep (property_step shift patched.old.live row) patched.old patched.new result }
 {
-    let property = patched.live.properties()[row];
+    let property = patched.properties()[row];
     if let FixedNode::NotLocal = fixed_node {
         return Ok(());
     }
     let value = lent(property.value);
-    raise_value(
-        patched,
-        property.node,
-        fixed_node,
-        property.name,
-        value,
-        shift,
+    let fixup = LocalFixup {
         row,
-    )
+        node: property.node,
+        name: property.name,
+        fixed_node,
+    };
+    raise_value(patched, fixup, value, shift)
 }
 
 /// Raises the phandles at the sites that the local fixups name, in order of these.
@@ -127,14 +123,13 @@ pub(crate) fn raise_local<'t>(
     patched: &mut PatchedOverlay<'t>,
     shift: usize,
 ) -> Result<(), OverlayError>
-    requires sound { IsPatched patched.old }
-    ensures sound { IsPatched patched.new }
     ensures live { patched.new.live ≡ patched.old.live }
     ensures step { IsStep (local_step shift patched.old.live) patched.old patched.new result }
 {
-    let fixed_nodes = all_fixed_nodes(alloc, &patched.live)?;
-    for row in 0..patched.live.properties().len() {
-        let node = patched.live.properties()[row].node;
+    patched.check();
+    let fixed_nodes = all_fixed_nodes(alloc, patched.live())?;
+    for row in 0..patched.properties().len() {
+        let node = patched.properties()[row].node;
         if let Err(error) = raise_local_fixup(patched, fixed_nodes[node], row, shift) {
             return Err(error);
         }

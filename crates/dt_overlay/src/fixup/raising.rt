@@ -7,7 +7,7 @@ ghost use Rattle.dt_tree.specs.Steps.{each};
 ghost use Rattle.dt_source.specs.OverlayMeaning.Shifted as meaning;
 ghost use Rattle.dt_source.specs.OverlayMeaning.Shifted.{differ, phandles, raised_phandle, with_phandles};
 ghost use Rattle.dt_overlay.specs.Fixup.OverlayFault.{Gives};
-ghost use Rattle.dt_overlay.specs.Fixup.PatchedOverlay.{IsPatched, change_at, value_at};
+ghost use Rattle.dt_overlay.specs.Fixup.PatchedOverlay.{change_at, value_at};
 ghost use Rattle.dt_overlay.specs.Fixup.Private.Marks.{KeepsMarks};
 ghost use Rattle.dt_overlay.specs.Fixup.Private.Rows.{DoesToAll, KeepsOthers, RaisesRow, is_met};
 ghost use Rattle.dt_overlay.specs.Fixup.Private.Steps.{is_marked};
@@ -41,16 +41,14 @@ fn raise_property(
     property: usize,
     shift: usize,
 ) -> Result<(), OverlayError>
-    requires sound { IsPatched patched.old }
     requires known { property < length patched.old.live.properties.items }
     requires fresh { value_at patched.old property ≡ (row_property patched.old.live property).value }
-    ensures sound { IsPatched patched.new }
     ensures live { patched.new.live ≡ patched.old.live }
     ensures marks { OnOk result (KeepsMarks patched.old patched.new) }
     ensures others { OnOk result (KeepsOthers property patched.old patched.new) }
     ensures raised { RaisesRow shift property patched.old patched.new result }
 {
-    let number = match row_phandle(&patched.live, property) {
+    let number = match row_phandle(patched.live(), property) {
         Some(number) => number,
         None => return Ok(()),
     };
@@ -93,14 +91,13 @@ fn find_same<'t>(alloc: Global, live: &LiveTree<'t, &'t [u8]>) -> Result<Option<
 
 // Raises all phandles, whether or not two of them are one.
 fn raise_properties(patched: &mut PatchedOverlay<'_>, shift: usize) -> Result<(), OverlayError>
-    requires sound { IsPatched patched.old }
     requires unchanged { (k : ℕ) → change_at patched.old k ≡ None }
-    ensures sound { IsPatched patched.new }
     ensures live { patched.new.live ≡ patched.old.live }
     ensures unmarked { OnOk result ((k i : ℕ) → is_marked (change_at patched.new k) i ≡ false) }
     ensures raised { DoesToAll (each (raised_phandle shift)) patched.old patched.new result }
 {
-    for property in 0..patched.live.properties().len() {
+    patched.check();
+    for property in 0..patched.properties().len() {
         if let Err(error) = raise_property(patched, property, shift) {
             return Err(error);
         }
@@ -114,15 +111,13 @@ pub(crate) fn raise(
     patched: &mut PatchedOverlay<'_>,
     shift: usize,
 ) -> Result<(), OverlayError>
-    requires sound { IsPatched patched.old }
     requires unchanged { (k : ℕ) → change_at patched.old k ≡ None }
-    ensures sound { IsPatched patched.new }
     ensures live { patched.new.live ≡ patched.old.live }
     ensures unmarked { OnOk result ((k i : ℕ) → is_marked (change_at patched.new k) i ≡ false) }
     ensures phandles { DoesToAll (with_phandles shift) patched.old patched.new result }
 {
     raise_properties(patched, shift)?;
-    if let Some(clash) = find_same(alloc, &patched.live)? {
+    if let Some(clash) = find_same(alloc, patched.live())? {
         return Err(OverlayError::PhandleClash(clash));
     }
     Ok(())

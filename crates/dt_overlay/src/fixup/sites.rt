@@ -1,8 +1,9 @@
 //! Where fixup sites lie.
 ghost use Rattle.std.specs.Prelude.{◌≡◌, ◌+◌, ◌≤◌, ℕ, length, Some, IfOk};
 ghost use Rattle.dt_live.specs.Rows.{IsNode, property_of};
-ghost use Rattle.dt_overlay.specs.Fixup.PatchedOverlay.{IsPatched, value_at};
-ghost use Rattle.dt_overlay.specs.Fixup.Private.Walk.{IsOpenRow, IsStep, site_taken};
+ghost use Rattle.dt_source.specs.OverlayMeaning.Shifted.{take_site as site_taken};
+ghost use Rattle.dt_overlay.specs.Fixup.PatchedOverlay.{value_at};
+ghost use Rattle.dt_overlay.specs.Fixup.Private.Walk.{IsOpenRow, IsStep, site_at};
 
 use crate::fixup::error::OverlayError;
 use crate::fixup::patched_overlay::PatchedOverlay;
@@ -17,11 +18,11 @@ fn open_row<'t>(
     name: &'t [u8],
     offset: usize,
 ) -> Result<usize, EntryFault>
-    requires sound { IsPatched patched.now }
     requires known { IsNode patched.now.live node }
     ensures { IsOpenRow patched.now node name.now offset result }
 {
-    let Some(row) = patched.live.property(node, name) else {
+    patched.check();
+    let Some(row) = patched.property(node, name) else {
         return Err(EntryFault::NoProperty);
     };
     let length = patched.value(row).len();
@@ -31,7 +32,7 @@ fn open_row<'t>(
     if length - 4 < offset {
         return Err(EntryFault::Outside);
     }
-    if is_reserved(patched.live.nodes(), node) {
+    if is_reserved(patched.nodes(), node) {
         return Err(EntryFault::Reserved);
     }
     if name == b"phandle".as_slice() {
@@ -48,15 +49,14 @@ pub(crate) fn take_site<'t>(
     offset: usize,
     entry: FixupEntry,
 ) -> Result<usize, OverlayError>
-    requires sound { IsPatched patched.old }
     requires known { IsNode patched.old.live node }
-    ensures sound { IsPatched patched.new }
     ensures live { patched.new.live ≡ patched.old.live }
     ensures values { (k : ℕ) → value_at patched.new k ≡ value_at patched.old k }
     ensures row { IfOk result (λ row. property_of patched.old.live node name.now ≡ Some row) }
     ensures fits { IfOk result (λ row. offset + 4 ≤ length (value_at patched.new row)) }
-    ensures step { IsStep (site_taken patched.old node name.now offset) patched.old patched.new result }
+    ensures step { IsStep (site_taken (site_at patched.old node name.now offset)) patched.old patched.new result }
 {
+    patched.check();
     let row = match open_row(patched, node, name, offset) {
         Ok(row) => row,
         Err(fault) => return Err(OverlayError::BadFixup { entry, fault }),

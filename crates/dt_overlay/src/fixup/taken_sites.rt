@@ -1,7 +1,7 @@
 //! Fixup sites, which are taken before a symbol is looked up.
-ghost use Rattle.std.specs.Prelude.{◌≡◌, ◌∷◌, ◌++◌, [], ℕ, All, map, IfOk, OnOk};
+ghost use Rattle.std.specs.Prelude.{◌≡◌, [], ℕ, All, map, IfOk, OnOk};
 ghost use Rattle.dt_source.specs.OverlayMeaning.Shifted as meaning;
-ghost use Rattle.dt_overlay.specs.Fixup.PatchedOverlay.{IsPatched, value_at};
+ghost use Rattle.dt_overlay.specs.Fixup.PatchedOverlay.{value_at};
 ghost use Rattle.dt_overlay.specs.Fixup.Private.Fixing.{fixup_named, sites_taken};
 ghost use Rattle.dt_overlay.specs.Fixup.Private.TakenSites.{IsInside, fixup_taken};
 ghost use Rattle.dt_overlay.specs.Fixup.Private.Walk.{IsStep};
@@ -37,16 +37,15 @@ fn take_named_site<'t>(
     patched: &mut PatchedOverlay<'t>,
     fixup: NamedSite<'t>,
 ) -> Result<TakenSite<'t>, OverlayError>
-    requires sound { IsPatched patched.old }
-    ensures sound { IsPatched patched.new }
     ensures live { patched.new.live ≡ patched.old.live }
     ensures values { (k : ℕ) → value_at patched.new k ≡ value_at patched.old k }
     ensures step { IsStep (meaning.take_site (fixup_named fixup.entry).at) patched.old patched.new result }
     ensures taken { IfOk result (λ taken. fixup_taken patched.old.live taken ≡ fixup_named fixup.entry) }
     ensures inside { IfOk result (λ taken. IsInside patched.new taken) }
 {
+    patched.check();
     let entry = FixupEntry::Text(fixup.entry);
-    let Some(node) = patched.live.at_path(fixup.site.path) else {
+    let Some(node) = patched.at_path(fixup.site.path) else {
         let fault = EntryFault::NoNode;
         return Err(OverlayError::BadFixup { entry, fault });
     };
@@ -65,9 +64,7 @@ pub(crate) fn take_named_sites<'t>(
     fixups: &[NamedSite<'t>],
     taken: &mut Vec<TakenSite<'t>>,
 ) -> Result<(), OverlayError>
-    requires sound { IsPatched patched.old }
     requires none { taken.old.items ≡ [] }
-    ensures sound { IsPatched patched.new }
     ensures live { patched.new.live ≡ patched.old.live }
     ensures step { IsStep (sites_taken fixups.now) patched.old patched.new result }
     ensures taken { OnOk result (map (fixup_taken patched.old.live) taken.new.items ≡ map fixup_named fixups.now) }

@@ -1,7 +1,7 @@
 //! The texts of fixups and symbols.
-ghost use Rattle.std.specs.Prelude.{◌≡◌, ◌≤◌, ◌∷◌, ◌++◌, ◌==◌, [], true, Some, None, length, IfSome, MatchOption};
-ghost use Rattle.std.specs.List.{position, slice_split};
-ghost use Rattle.dt_tree.specs.Path.{is_path, path_names};
+ghost use Rattle.std.specs.Prelude.{◌≡◌, ◌∷◌, ◌++◌, ◌==◌, [], Some, None, IfSome, MatchOption};
+ghost use Rattle.std.specs.List.{position};
+ghost use Rattle.dt_tree.specs.Path.{is_path};
 ghost use Rattle.dt_source.specs.OverlayMeaning.Texts.{ended_path, offset_in, unended};
 ghost use Rattle.dt_overlay.specs.Fixup.Private.Fixing.{IsFirstPart, IsSiteText};
 ghost use Rattle.dt_overlay.specs.Fixup.Texts.{IsPathText};

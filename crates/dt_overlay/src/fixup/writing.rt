@@ -2,7 +2,7 @@
 ghost use Rattle.std.specs.Prelude.{◌≡◌, ℕ, All, Some, length, IfSome, OnOk};
 ghost use Rattle.dt_live.specs.Flattened.{IsWhole, lists};
 ghost use Rattle.dt_source.specs.OverlayMeaning.Shifted as meaning;
-ghost use Rattle.dt_overlay.specs.Fixup.PatchedOverlay.{IsPatched, value_at};
+ghost use Rattle.dt_overlay.specs.Fixup.PatchedOverlay.{value_at};
 ghost use Rattle.dt_overlay.specs.Fixup.Private.Fixing.{IsPhandleOrFault};
 ghost use Rattle.dt_overlay.specs.Fixup.Private.TakenSites.{IsInside, WritesSite, WritesSites};
 
@@ -38,13 +38,12 @@ fn write_site<'t>(
     site: TakenSite<'t>,
     phandle: u32,
 ) -> Result<(), AllocError>
-    requires sound { IsPatched patched.old }
     requires inside { IsInside patched.old site }
-    ensures sound { IsPatched patched.new }
     ensures live { patched.new.live ≡ patched.old.live }
     ensures lengths { OnOk result ((k : ℕ) → length (value_at patched.new k) ≡ length (value_at patched.old k)) }
     ensures written { OnOk result (WritesSite site.entry phandle patched.old patched.new) }
 {
+    patched.check();
     patched.write(site.row, site.offset, phandle)?;
     Ok(())
 }
@@ -56,9 +55,7 @@ pub(crate) fn write_sites<'t>(
     sites: &[TakenSite<'t>],
 ) -> Result<(), OverlayError>
     requires base { IsWhole base.now }
-    requires sound { IsPatched patched.old }
     requires inside { All (IsInside patched.old) sites.now }
-    ensures sound { IsPatched patched.new }
     ensures live { patched.new.live ≡ patched.old.live }
     ensures written { WritesSites base.now sites.now patched.old patched.new result }
 {

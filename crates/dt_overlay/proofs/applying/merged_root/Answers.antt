@@ -17,7 +17,7 @@ returns-in-None c =
     let s = c.args.patched.now in
     let es = symbols_of base (patched_lists s) in
     let longer = subst (λ (o : Option (Vec Symbol Global)). AreSymbols es c.args.limit o) c.in-None.is c.requires.symbols in
-    let h = has-symbols base s c.requires.patched c.merge_fragments.new.live c.in_ok-merge_fragments.ensures.whole c.in_ok-merge_fragments.ensures.merged in
+    let h = has-symbols base s c.check.ensures c.merge_fragments.new.live c.in_ok-merge_fragments.ensures.whole c.in_ok-merge_fragments.ensures.merged in
     record { lists = h.lists; result = h.result; longer = omega (arith, longer.0, h.symbols); passable = longer.1; trees = h.trees }
 
 pub put_symbols-requires-clause-named : goal.put_symbols-requires-clause-named

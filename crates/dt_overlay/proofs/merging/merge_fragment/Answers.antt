@@ -2,5 +2,5 @@
 use Rattle.std.proofs.Common.{rules}
 use Rattle.dt_overlay.proofs.merging.merge_fragment.Goals as goal
 
-pub returns-in-None : goal.returns-in-None
-returns-in-None c = record { sound = tt; kept = tt; rows = tt; labels = tt; merged = search rules }
+pub returns-in-None-clause-merged : goal.returns-in-None-clause-merged
+returns-in-None-clause-merged c = search rules

@@ -65,7 +65,7 @@ loop-fragment-preserved c =
       kept = λ p. kept-then p base.nodes.items d.nodes.items new.nodes.items (inv.kept p) (e.kept p);
       rows = e.rows inv.rows;
       labels = e.labels ∙ inv.labels;
-      lawful = merged-at-lawful (patched_lists s) (node_path s.live f.body) _ (lists d) (lists new) (patched-lawful s c.requires.patched) (target-named base c.requires.base s is.0 f is.1) inv.lawful made;
+      lawful = merged-at-lawful (patched_lists s) (node_path s.live f.body) _ (lists d) (lists new) (patched-lawful s c.check.ensures) (target-named base c.requires.base s is.0 f is.1) inv.lawful made;
       rest =
           ap (λ r. then_do r (fold (merged_one base s) (drop (i + 1) c.args.list.now))) (sym made)
           ∙ sym (fold-left base s c.args.list.now i f (lists d) c.loop-fragment-test.true (get_or-itself c.args.list.now i unread))

@@ -38,7 +38,7 @@ loop-node-init c =
     let d = c.args.live.now in
     let b = c.args.body in
     let t = node_path d (slice_index_or c.args.base_nodes.now b 0) in
-    let start = nodes-start over c.requires.patched.whole c.requires.ordered b c.requires.body c.requires.top t in
+    let start = nodes-start over c.check.ensures.whole c.check.ensures.ordered b c.requires.body c.requires.top t in
     record {
       low = omega arith;
       high = let h = c.requires.body in omega (arith, h, ap length c.nodes-nodes.ensures);
@@ -64,7 +64,7 @@ returns-then-row-body-clause-nodes c =
     let same = c.nodes-nodes.ensures in
     let known : n ≤ suc (length over.nodes.items) = omega (arith, c.loop-node-test.true, ap length same) in
     let part = ended over.nodes.items c.nodes-nodes.result.now b n same i.low known i.inside c.if-row-body.true in
-    ap (λ ps. with_nodes ps (lists c.loop-node.live).nodes) (sym (nodes-end over c.requires.patched.whole c.requires.ordered b c.requires.body c.requires.top t n part)) ∙ i.rest
+    ap (λ ps. with_nodes ps (lists c.loop-node.live).nodes) (sym (nodes-end over c.check.ensures.whole c.check.ensures.ordered b c.requires.body c.requires.top t n part)) ∙ i.rest
 
 pub returns-then-row-body-clause-deep : goal.returns-then-row-body-clause-deep
 returns-then-row-body-clause-deep c =
@@ -77,7 +77,7 @@ returns-then-row-body-clause-deep c =
     let known : n ≤ suc (length over.nodes.items) = omega (arith, c.loop-node-test.true, ap length same) in
     let part = ended over.nodes.items c.nodes-nodes.result.now b n same i.low known i.inside c.if-row-body.true in
     or-false (is_some c.loop-node.deep)
-    ∙ ap (λ ps. is_some c.loop-node.deep || list_any is_too_deep ps) (sym (nodes-end over c.requires.patched.whole c.requires.ordered b c.requires.body c.requires.top t n part)) ∙ i.deep
+    ∙ ap (λ ps. is_some c.loop-node.deep || list_any is_too_deep ps) (sym (nodes-end over c.check.ensures.whole c.check.ensures.ordered b c.requires.body c.requires.top t n part)) ∙ i.deep
 
 pub returns-then-row-body-clause-part : goal.returns-then-row-body-clause-part
 returns-then-row-body-clause-part c =
@@ -102,14 +102,14 @@ pub bounds-base_nodes-row : goal.bounds-base_nodes-row
 bounds-base_nodes-row c =
     let i = c.loop-node.invariant in
     let known = parent-known c.args.patched.now.live.nodes.items c.nodes-nodes.result.now c.args.body c.loop-node.node
-    c.nodes-nodes.ensures c.requires.patched.whole.sound.grown i.low c.loop-node-test.true in
+    c.nodes-nodes.ensures c.check.ensures.whole.sound.grown i.low c.loop-node-test.true in
     omega (arith, known, i.room, c.requires.room)
 
 pub offset_bounds-base_nodes-row : goal.offset_bounds-base_nodes-row
 offset_bounds-base_nodes-row c =
     let i = c.loop-node.invariant in
     let known = parent-known c.args.patched.now.live.nodes.items c.nodes-nodes.result.now c.args.body c.loop-node.node
-    c.nodes-nodes.ensures c.requires.patched.whole.sound.grown i.low c.loop-node-test.true in
+    c.nodes-nodes.ensures c.check.ensures.whole.sound.grown i.low c.loop-node-test.true in
     omega (arith, known, i.room, c.requires.room)
 
 pub define_child-requires-clause-known : goal.define_child-requires-clause-known
@@ -121,7 +121,7 @@ define_child-requires-clause-known c =
     let at : n ≡ suc k = omega (arith, i.low) in
     let lt : k < length over.nodes.items = omega (arith, at, c.loop-node-test.true, ap length c.nodes-nodes.ensures) in
     let row = row-is c.nodes-nodes.result.now over.nodes.items n k blank_row c.nodes-nodes.ensures at lt in
-    (parent-base_node over c.requires.patched.whole c.requires.ordered c.args.body c.requires.body c.requires.top _ c.loop-node.live c.loop-node.base_nodes n k at (get_or c.nodes-nodes.result.now (n - 1) blank_row) row i.low lt i.inside i.base_nodes (omega (arith, c.if-row-body.false))).known
+    (parent-base_node over c.check.ensures.whole c.check.ensures.ordered c.args.body c.requires.body c.requires.top _ c.loop-node.live c.loop-node.base_nodes n k at (get_or c.nodes-nodes.result.now (n - 1) blank_row) row i.low lt i.inside i.base_nodes (omega (arith, c.if-row-body.false))).known
 
 pub define_child-requires-clause-stands : goal.define_child-requires-clause-stands
 define_child-requires-clause-stands c =
@@ -132,7 +132,7 @@ define_child-requires-clause-stands c =
     let at : n ≡ suc k = omega (arith, i.low) in
     let lt : k < length over.nodes.items = omega (arith, at, c.loop-node-test.true, ap length c.nodes-nodes.ensures) in
     let row = row-is c.nodes-nodes.result.now over.nodes.items n k blank_row c.nodes-nodes.ensures at lt in
-    (parent-base_node over c.requires.patched.whole c.requires.ordered c.args.body c.requires.body c.requires.top _ c.loop-node.live c.loop-node.base_nodes n k at (get_or c.nodes-nodes.result.now (n - 1) blank_row) row i.low lt i.inside i.base_nodes (omega (arith, c.if-row-body.false))).stands
+    (parent-base_node over c.check.ensures.whole c.check.ensures.ordered c.args.body c.requires.body c.requires.top _ c.loop-node.live c.loop-node.base_nodes n k at (get_or c.nodes-nodes.result.now (n - 1) blank_row) row i.low lt i.inside i.base_nodes (omega (arith, c.if-row-body.false))).stands
 
 pub loop-node-preserved : goal.loop-node-preserved
 loop-node-preserved c =
@@ -151,8 +151,8 @@ loop-node-preserved c =
     let new = c.define_child.new.self in
     let e = c.in_ok-base_node.ensures in
     let base_node = c.in_ok-base_node.base_node in
-    let whole = c.requires.patched.whole in
-    let ordered = c.requires.ordered in
+    let whole = c.check.ensures.whole in
+    let ordered = c.check.ensures.ordered in
     let known = c.requires.body in
     let top = c.requires.top in
     let base_nodes = c.loop-node.base_nodes in

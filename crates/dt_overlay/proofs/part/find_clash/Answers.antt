@@ -15,7 +15,7 @@ loop-at-init c =
     record {
       low = omega arith;
       high = first-last c.args.patched.now.live p c.requires.part;
-      rest = ap (list_any (clashes (lists d).properties)) (sym (values-start c.args.patched.now c.requires.patched c.requires.ordered p c.requires.part t));
+      rest = ap (list_any (clashes (lists d).properties)) (sym (values-start c.args.patched.now c.check.ensures p c.requires.part t));
     }
 
 pub bounds-base_nodes-row : goal.bounds-base_nodes-row
@@ -26,7 +26,7 @@ bounds-base_nodes-row c =
     let at = c.loop-at.at in
     let t = node_path d (slice_index_or c.args.base_nodes.now p.body 0) in
     let row = ap (λ rs. property_at rs at) c.properties-rows.ensures in
-    let known = known-node s c.requires.patched c.requires.ordered p c.requires.part t d c.args.base_nodes.now c.requires.base_nodes at c.loop-at.invariant.low c.loop-at-test.true (property_at c.properties-rows.result.now at) row in
+    let known = known-node s c.check.ensures p c.requires.part t d c.args.base_nodes.now c.requires.base_nodes at c.loop-at.invariant.low c.loop-at-test.true (property_at c.properties-rows.result.now at) row in
     omega (arith, known, c.requires.room)
 
 pub returns-then-is_clash : goal.returns-then-is_clash
@@ -37,7 +37,7 @@ returns-then-is_clash c =
     let at = c.loop-at.at in
     let t = node_path d (slice_index_or c.args.base_nodes.now p.body 0) in
     let row = ap (λ rs. property_at rs at) c.properties-rows.ensures in
-    sym (clash-step s c.requires.patched c.requires.ordered p c.requires.part t d c.args.base_nodes.now c.requires.base_nodes at c.loop-at.invariant.low c.loop-at-test.true (property_at c.properties-rows.result.now at) row
+    sym (clash-step s c.check.ensures p c.requires.part t d c.args.base_nodes.now c.requires.base_nodes at c.loop-at.invariant.low c.loop-at-test.true (property_at c.properties-rows.result.now at) row
     (lists d).properties true (sym c.if-is_clash.true ∙ c.is_clash.ensures))
     ∙ c.loop-at.invariant.rest
 
@@ -52,7 +52,7 @@ loop-at-preserved c =
     record {
       low = omega (arith, c.loop-at.invariant.low);
       high = omega (arith, c.loop-at-test.true);
-      rest = sym (clash-step s c.requires.patched c.requires.ordered p c.requires.part t d c.args.base_nodes.now c.requires.base_nodes at c.loop-at.invariant.low c.loop-at-test.true (property_at c.properties-rows.result.now at) row
+      rest = sym (clash-step s c.check.ensures p c.requires.part t d c.args.base_nodes.now c.requires.base_nodes at c.loop-at.invariant.low c.loop-at-test.true (property_at c.properties-rows.result.now at) row
           (lists d).properties _ (sym c.if-is_clash.false ∙ c.is_clash.ensures))
           ∙ c.loop-at.invariant.rest;
     }
@@ -65,7 +65,7 @@ returns c =
     let at = c.loop-at.at in
     let t = node_path d (slice_index_or c.args.base_nodes.now p.body 0) in
     let end : at ≡ p.last = omega (arith, c.loop-at.invariant.high, c.loop-at-test.false) in
-    let none = values-end s c.requires.patched c.requires.ordered p c.requires.part t in
+    let none = values-end s c.check.ensures p c.requires.part t in
     ap (list_any (clashes (lists d).properties)) (sym none ∙ ap (values_left s p.body t) (sym end)) ∙ c.loop-at.invariant.rest
 
 pub offset_bounds-base_nodes-row : goal.offset_bounds-base_nodes-row
@@ -76,5 +76,5 @@ offset_bounds-base_nodes-row c =
     let at = c.loop-at.at in
     let t = node_path d (slice_index_or c.args.base_nodes.now p.body 0) in
     let row = ap (λ rs. property_at rs at) c.properties-rows.ensures in
-    let known = known-node s c.requires.patched c.requires.ordered p c.requires.part t d c.args.base_nodes.now c.requires.base_nodes at c.loop-at.invariant.low c.loop-at-test.true (property_at c.properties-rows.result.now at) row in
+    let known = known-node s c.check.ensures p c.requires.part t d c.args.base_nodes.now c.requires.base_nodes at c.loop-at.invariant.low c.loop-at-test.true (property_at c.properties-rows.result.now at) row in
     omega (arith, known, c.requires.room)

@@ -27,8 +27,8 @@ returns-clause-rows c all = c.in_ok-set_properties.ensures.rows (c.in_ok-end.ens
 
 pub first_property-requires : goal.first_property-requires
 first_property-requires c =
-    record { ordered = subst (λ (rs : List (PropertyRow Lent)). (i j : ℕ) → i ≤ j → j < length rs → (property_at rs i).node ≤ (property_at rs j).node) (sym c.properties-rows.ensures) c.requires.ordered.properties }
+    record { ordered = subst (λ (rs : List (PropertyRow Lent)). (i j : ℕ) → i ≤ j → j < length rs → (property_at rs i).node ≤ (property_at rs j).node) (sym c.properties-rows.ensures) c.check.ensures.ordered.properties }
 
 pub first_property-requires-2 : goal.first_property-requires-2
 first_property-requires-2 c =
-    record { ordered = subst (λ (rs : List (PropertyRow Lent)). (i j : ℕ) → i ≤ j → j < length rs → (property_at rs i).node ≤ (property_at rs j).node) (sym c.properties-rows.ensures) c.requires.ordered.properties }
+    record { ordered = subst (λ (rs : List (PropertyRow Lent)). (i j : ℕ) → i ≤ j → j < length rs → (property_at rs i).node ≤ (property_at rs j).node) (sym c.properties-rows.ensures) c.check.ensures.ordered.properties }

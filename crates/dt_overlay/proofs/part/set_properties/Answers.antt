@@ -18,7 +18,7 @@ loop-at-init c =
       kept = refl;
       rows = λ all. all;
       labels = refl;
-      rest = ap (λ xs. with_values xs (lists d).properties) (sym (values-start c.args.patched.now c.requires.patched c.requires.ordered p c.requires.part t));
+      rest = ap (λ xs. with_values xs (lists d).properties) (sym (values-start c.args.patched.now c.check.ensures p c.requires.part t));
     }
 
 pub bounds-base_nodes-row : goal.bounds-base_nodes-row
@@ -29,7 +29,7 @@ bounds-base_nodes-row c =
     let at = c.loop-at.at in
     let t = node_path d (slice_index_or c.args.base_nodes.now p.body 0) in
     let row = ap (λ rs. property_at rs at) c.properties-rows.ensures in
-    let known = known-node s c.requires.patched c.requires.ordered p c.requires.part t d c.args.base_nodes.now c.requires.base_nodes at c.loop-at.invariant.low c.loop-at-test.true (property_at c.properties-rows.result.now at) row in
+    let known = known-node s c.check.ensures p c.requires.part t d c.args.base_nodes.now c.requires.base_nodes at c.loop-at.invariant.low c.loop-at-test.true (property_at c.properties-rows.result.now at) row in
     omega (arith, known, c.requires.room)
 
 pub loop-at-preserved : goal.loop-at-preserved
@@ -49,7 +49,7 @@ loop-at-preserved c =
       kept = e.kept ∙ i.kept;
       rows = λ all. e.rows (i.rows all);
       labels = ap (λ x. x.labels) e.state ∙ i.labels;
-      rest = put-step s c.requires.patched c.requires.ordered p c.requires.part t d c.args.base_nodes.now c.requires.base_nodes at i.low c.loop-at-test.true (property_at c.properties-rows.result.now at) row
+      rest = put-step s c.check.ensures p c.requires.part t d c.args.base_nodes.now c.requires.base_nodes at i.low c.loop-at-test.true (property_at c.properties-rows.result.now at) row
           c.loop-at.live c.set_property.new.self c.value.result i.kept c.value.ensures e.state
           ∙ i.rest;
     }
@@ -62,7 +62,7 @@ returns-clause-properties c =
     let s = c.args.patched.now in
     let t = node_path d (slice_index_or c.args.base_nodes.now p.body 0) in
     let end : c.loop-at.at ≡ p.last = omega (arith, i.high, c.loop-at-test.false) in
-    let none = values-end s c.requires.patched c.requires.ordered p c.requires.part t in
+    let none = values-end s c.check.ensures p c.requires.part t in
     ap (λ xs. with_values xs (lists c.loop-at.live).properties) (sym none ∙ ap (values_left s p.body t) (sym end)) ∙ i.rest
 
 pub offset_bounds-base_nodes-row : goal.offset_bounds-base_nodes-row
@@ -73,5 +73,5 @@ offset_bounds-base_nodes-row c =
     let at = c.loop-at.at in
     let t = node_path d (slice_index_or c.args.base_nodes.now p.body 0) in
     let row = ap (λ rs. property_at rs at) c.properties-rows.ensures in
-    let known = known-node s c.requires.patched c.requires.ordered p c.requires.part t d c.args.base_nodes.now c.requires.base_nodes at c.loop-at.invariant.low c.loop-at-test.true (property_at c.properties-rows.result.now at) row in
+    let known = known-node s c.check.ensures p c.requires.part t d c.args.base_nodes.now c.requires.base_nodes at c.loop-at.invariant.low c.loop-at-test.true (property_at c.properties-rows.result.now at) row in
     omega (arith, known, c.requires.room)

@@ -10,7 +10,7 @@ use Rattle.dt_overlay.proofs.symbol_sizes.symbols_size.Goals.{then-is_symbols_no
 pub is_symbols_node-requires-clause-known : goal.is_symbols_node-requires-clause-known
 is_symbols_node-requires-clause-known c =
     let k = c.loop-row.row in
-    omega (arith, c.requires.patched.whole.sound.known k, ap (λ rs. (property_at rs k).node) c.properties.ensures, ap length c.nodes.ensures)
+    omega (arith, c.check.ensures.whole.sound.known k, ap (λ rs. (property_at rs k).node) c.properties.ensures, ap length c.nodes.ensures)
 
 pub loop-row-preserved : goal.loop-row-preserved
 loop-row-preserved c =

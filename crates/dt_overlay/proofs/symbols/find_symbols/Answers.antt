@@ -15,7 +15,7 @@ use Rattle.dt_overlay.proofs.symbols.find_symbols.Goals.{then-is_symbols_node+in
 pub is_symbols_node-requires-clause-known : goal.is_symbols_node-requires-clause-known
 is_symbols_node-requires-clause-known c =
     let k = c.loop-row.row in
-    omega (arith, c.requires.patched.whole.sound.known k, ap (λ rs. (property_at rs k).node) c.properties.ensures, ap length c.nodes.ensures)
+    omega (arith, c.check.ensures.whole.sound.known k, ap (λ rs. (property_at rs k).node) c.properties.ensures, ap length c.nodes.ensures)
 
 pub loop-row-preserved : goal.loop-row-preserved
 loop-row-preserved c =

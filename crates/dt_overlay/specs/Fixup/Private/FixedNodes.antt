@@ -8,6 +8,7 @@ use Rattle.dt_live.specs.Rows.{node_path, path_of, property_at}
 use Rattle.dt_live.specs.Flattened.{Lent}
 use Rattle.dt_overlay.specs.declared.fixup.fixed_nodes.FixedNode.{FixedNode}
 use Rattle.dt_overlay.specs.declared.fixup.fixed_nodes.FixedNode.TheVariants.{NotLocal, Missing, Node}
+use Rattle.dt_overlay.specs.declared.fixup.local.LocalFixup.{LocalFixup}
 
 -- what the local fixups of the node at a path are of: of nothing, of no node, or of a node
 abbrev pub IsFixedNode : List NodeRow → Path → FixedNode → Type 0
@@ -25,3 +26,8 @@ AreFixedNodes d xs = (n : ℕ) → n ≤ length d.nodes.items → IsFixedNodeOf 
 -- the node of row k
 abbrev pub row_node : LiveTree Lent → ℕ → ℕ
 row_node d k = (property_at d.properties.items k).node
+
+-- a local fixup stands below `/__local_fixups__`, and is of what it says
+pub record IsLocalFixup (d : LiveTree Lent) (f : LocalFixup) : Type 0 where
+  pub fixed_node : IsFixedNodeOf d f.node f.fixed_node
+  pub below : is_within (local_fixups_name ∷ []) (node_path d f.node) ≡ true

@@ -60,11 +60,11 @@ abbrev pub row_fixups : LiveTree Lent → ℕ → Result (List Fixup) Fault
 row_fixups d k = gathered (filter is_fixups (row_property d k ∷ []))
 
 -- a call adds what the meaning has, or has its fault
-abbrev pub Adds : {A : Type 0} → Result (List Fixup) Fault → List Fixup → List Fixup → Result A OverlayError → Type 0
-Adds r old new result = MatchResult result (λ _. (fs : List Fixup) × (r ≡ Ok fs) × (new ≡ old ++ fs)) (λ e. IsFault e r)
-
 abbrev pub AddsFixups : {A : Type 0} → Result (List Fixup) Fault → List NamedSite → List NamedSite → Result A OverlayError → Type 0
-AddsFixups r old new result = Adds r (map fixup_named old) (map fixup_named new) result
+AddsFixups r old new result =
+    MatchResult result
+    (λ _. (fs : List Fixup) × (r ≡ Ok fs) × (map fixup_named new ≡ map fixup_named old ++ fs))
+    (λ e. IsFault e r)
 
 -- the properties of an overlay that hold its fixups
 abbrev pub fixups_of : LiveTree Lent → List Value

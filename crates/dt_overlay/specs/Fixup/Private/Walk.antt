@@ -11,8 +11,9 @@ use Rattle.dt_live.specs.ByRow.{row_property}
 use Rattle.dt_live.specs.Flattened.{Lent, lists}
 use Rattle.dt_live.specs.Rows.{node_path, property_of}
 use Rattle.dt_source.specs.OverlayMeaning.Fault.{Fault}
-use Rattle.dt_source.specs.OverlayMeaning.Shifted.{Site, Shifting, Value, fits, is_local_fixup, raise_at, raise_sites, site, take_site}
+use Rattle.dt_source.specs.OverlayMeaning.Shifted.{Site, Shifting, Value, fits, is_local_fixup, raise_at, raise_sites, site}
 use Rattle.dt_overlay.specs.declared.fixup.error.OverlayError.{OverlayError}
+use Rattle.dt_overlay.specs.declared.fixup.local.LocalFixup.{LocalFixup}
 use Rattle.dt_overlay.specs.declared.fixup.patched_overlay.PatchedOverlay.{PatchedOverlay}
 use Rattle.dt_overlay.specs.declared.fixup.reason.EntryFault.{EntryFault}
 use Rattle.dt_overlay.specs.Fixup.OverlayFault.{IsFault}
@@ -22,10 +23,6 @@ use Rattle.dt_overlay.specs.Fixup.Private.Steps.{IsAt}
 -- a call does what a step of the meaning does, or has its fault
 abbrev pub IsStep : {A : Type 0} → (Shifting → Result Shifting Fault) → PatchedOverlay → PatchedOverlay → Result A OverlayError → Type 0
 IsStep f s t r = (x : Shifting) → IsAt x s → MatchResult r (λ _. (y : Shifting) × (f x ≡ Ok y) × IsAt y t) (λ e. IsFault e (f x))
-
--- so far a loop has come: what is left gives what all would give
-abbrev pub IsReached : (Shifting → Result Shifting Fault) → (Shifting → Result Shifting Fault) → PatchedOverlay → PatchedOverlay → Type 0
-IsReached all rest s t = (x : Shifting) → IsAt x s → (y : Shifting) × (all x ≡ rest y) × IsAt y t
 
 -- a site inside a value that may be written
 abbrev pub is_open : Site → List Value → Bool
@@ -47,16 +44,12 @@ IsOpenRow s node name offset found =
     (λ fault. is_open (site_at s node name offset) (properties_of s) ≡ false)
 
 -- what one site of a local fixup does, and all sites of one
-abbrev pub site_step : ℕ → PatchedOverlay → ℕ → List ℕ → ℕ → Shifting → Result Shifting Fault
-site_step shift s node name offset = raise_at shift (site (drop 1 (node_path s.live node)) name offset)
+abbrev pub site_step : ℕ → PatchedOverlay → LocalFixup → ℕ → Shifting → Result Shifting Fault
+site_step shift s f offset = raise_at shift (site (drop 1 (node_path s.live f.node)) f.name.now offset)
 
-abbrev pub sites_step : ℕ → PatchedOverlay → ℕ → List ℕ → List ℕ → Shifting → Result Shifting Fault
-sites_step shift s node name value = raise_sites shift (definition (node_path s.live node) name value)
+abbrev pub sites_step : ℕ → PatchedOverlay → LocalFixup → List ℕ → Shifting → Result Shifting Fault
+sites_step shift s f value = raise_sites shift (definition (node_path s.live f.node) f.name.now value)
 
 -- what all local fixups do, in order
 abbrev pub local_step : ℕ → LiveTree Lent → Shifting → Result Shifting Fault
 local_step shift d = fold (raise_sites shift) (filter is_local_fixup (lists d).properties)
-
--- the site at an offset of a node's property is taken
-abbrev pub site_taken : PatchedOverlay → ℕ → List ℕ → ℕ → Shifting → Result Shifting Fault
-site_taken s node name offset = take_site (site_at s node name offset)

@@ -1,16 +1,32 @@
-use Rattle.std.proofs.Common.{◌≡◌, ◌∙◌, Ok, sym, ap, subst}
+use Rattle.std.proofs.Common.{◌≡◌, ◌∙◌, [], ◌∷◌, Ok, sym, ap, subst}
 use Rattle.std.specs.Prelude.{MatchResult, Result}
 use Rattle.dt_live.specs.declared.live_tree.PropertyRow.{PropertyRow}
 use Rattle.dt_live.specs.Rows.{path_of, property_at}
 use Rattle.dt_source.specs.TreeMeaning.Edits.{definition}
+use Rattle.dt_source.specs.TreeMeaning.Names.{local_fixups_name}
+use Rattle.dt_source.specs.TreeMeaning.Paths.{is_within}
 use Rattle.dt_live.specs.ByRow.{lent, row_property}
 use Rattle.dt_live.specs.Flattened.{Lent}
 use Rattle.dt_source.specs.OverlayMeaning.Fault.{Fault}
 use Rattle.dt_source.specs.OverlayMeaning.Shifted.{Shifting, raise_sites}
 use Rattle.dt_overlay.specs.Fixup.OverlayFault.{IsFault}
+use Rattle.dt_overlay.specs.Fixup.Private.FixedNodes.{IsFixedNodeOf}
 use Rattle.dt_overlay.specs.Fixup.Private.Steps.{IsAt}
 use Rattle.dt_overlay.proofs.FixupLemmas.LocalSteps.{row-local_node, fixed_node-local_node}
 use Rattle.dt_overlay.proofs.fixup.local.raise_local_fixup.Goals as goal
+
+pub raise_value-requires : goal.raise_value-requires
+raise_value-requires c =
+    let d = c.args.patched.now.live in
+    let k = c.args.row in
+    let is : property_at c.properties.result.now k ≡ property_at d.properties.items k = ap (λ xs. property_at xs k) c.properties.ensures in
+    let local_node = fixed_node-local_node d.nodes.items (row_property d k).path c.args.fixed_node c.in_default.not-NotLocal c.requires.fixed_node in
+    record {
+      fixup = record {
+        fixed_node = subst (λ (r : PropertyRow Lent). IsFixedNodeOf d r.node c.args.fixed_node) (sym is) c.requires.fixed_node;
+        below = ap (λ (r : PropertyRow Lent). is_within (local_fixups_name ∷ []) (path_of d.nodes.items r.node)) is ∙ local_node;
+      };
+    }
 
 pub returns-clause-step : goal.returns-clause-step
 returns-clause-step c = λ x at.

@@ -36,7 +36,6 @@ loop-property-preserved c =
     let inv = c.loop-property.invariant in
     let e = c.in_default.ensures in
     record {
-      sound = e.sound;
       live = e.live ∙ inv.live;
       unmarked = λ k j. e.marks k j ∙ inv.unmarked k j;
       done =
@@ -52,7 +51,7 @@ returns-in-Err-clause-raised c =
     let i = c.loop-property.property in
     let step = raised_phandle c.args.shift in
     fault-by c.in-Err.error (step (row_property d i)) (each step (lists d).properties)
-    (λ f is. ap (each step) (all-entries d c.requires.sound.whole.sound c.requires.sound.whole.stand c.requires.sound.whole.valued)
+    (λ f is. ap (each step) (all-entries d c.check.ensures.whole.sound c.check.ensures.whole.stand c.check.ensures.whole.valued)
     ∙ each-refused step (path_of d.nodes.items) (value_at s) d.properties.items i f
     (omega (arith, c.loop-property-test.true, ap length c.properties-property-end.ensures)) c.loop-property.invariant.done is)
     (subst (λ x. IsFault c.in-Err.error (step (row_property x i))) c.loop-property.invariant.live c.in-Err.ensures.raised)
@@ -62,7 +61,7 @@ returns-clause-raised c =
     let d = c.args.patched.now.live in
     let s = c.loop-property.patched in
     let step = raised_phandle c.args.shift in
-    ap (each step) (all-entries d c.requires.sound.whole.sound c.requires.sound.whole.stand c.requires.sound.whole.valued)
+    ap (each step) (all-entries d c.check.ensures.whole.sound c.check.ensures.whole.stand c.check.ensures.whole.valued)
     ∙ each-listed step (path_of d.nodes.items) (value_at s) 0 d.properties.items
     (λ i below. c.loop-property.invariant.done i (omega (arith, below, c.loop-property-test.false, ap length c.properties-property-end.ensures))
     ∙ ap (λ j. Ok (with_value (row_property d i) (value_at s j))) (omega arith))

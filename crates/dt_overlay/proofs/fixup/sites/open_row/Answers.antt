@@ -14,13 +14,13 @@ returns-in_default c =
     let s = c.args.patched.now in
     let none : property_of s.live c.args.node c.args.name.now ≡ None = sym c.property.ensures ∙ c.in_default.is in
     not-there (site (node_path s.live c.args.node) c.args.name.now c.args.offset) (patched_lists s).properties
-    (value-none s.live c.requires.sound.whole (value_at s) c.args.node c.args.name.now c.requires.known none)
+    (value-none s.live c.check.ensures.whole (value_at s) c.args.node c.args.name.now c.requires.known none)
 
-pub value-length-requires-clause-known : goal.value-length-requires-clause-known
-value-length-requires-clause-known c =
+pub value-length-requires : goal.value-length-requires
+value-length-requires c =
     let s = c.args.patched.now in
     let found : property_of s.live c.args.node c.args.name.now ≡ Some c.in-Some.row = sym c.property.ensures ∙ c.in-Some.is in
-    (row-there s.live c.requires.sound.whole c.args.node c.args.name.now c.in-Some.row found).0
+    record { known = (row-there s.live c.check.ensures.whole c.args.node c.args.name.now c.in-Some.row found).0 }
 
 pub returns-then-length-lt4 : goal.returns-then-length-lt4
 returns-then-length-lt4 c =
@@ -28,7 +28,7 @@ returns-then-length-lt4 c =
     let found : property_of s.live c.args.node c.args.name.now ≡ Some c.in-Some.row = sym c.property.ensures ∙ c.in-Some.is in
     let same : length c.value-length.result.now ≡ length (value_at s c.in-Some.row) = ap length c.value-length.ensures in
     not-inside (site (node_path s.live c.args.node) c.args.name.now c.args.offset) (patched_lists s).properties (value_at s c.in-Some.row)
-    (value-some s.live c.requires.sound.whole (value_at s) c.args.node c.args.name.now c.in-Some.row c.requires.known found) (omega (arith, same))
+    (value-some s.live c.check.ensures.whole (value_at s) c.args.node c.args.name.now c.in-Some.row c.requires.known found) (omega (arith, same))
 
 pub returns-then-length-offset : goal.returns-then-length-offset
 returns-then-length-offset c =
@@ -36,7 +36,7 @@ returns-then-length-offset c =
     let found : property_of s.live c.args.node c.args.name.now ≡ Some c.in-Some.row = sym c.property.ensures ∙ c.in-Some.is in
     let same : length c.value-length.result.now ≡ length (value_at s c.in-Some.row) = ap length c.value-length.ensures in
     not-inside (site (node_path s.live c.args.node) c.args.name.now c.args.offset) (patched_lists s).properties (value_at s c.in-Some.row)
-    (value-some s.live c.requires.sound.whole (value_at s) c.args.node c.args.name.now c.in-Some.row c.requires.known found) (omega (arith, same))
+    (value-some s.live c.check.ensures.whole (value_at s) c.args.node c.args.name.now c.in-Some.row c.requires.known found) (omega (arith, same))
 
 pub returns-then-eq : goal.returns-then-eq
 returns-then-eq c =
@@ -53,7 +53,7 @@ returns c =
     let plain : is_reserved (node_path s.live c.args.node) ≡ false = ap (λ rows. is_reserved (path_of rows c.args.node)) (sym c.nodes.ensures) ∙ sym c.is_reserved.ensures ∙ c.if-is_reserved.false in
     let other : bytes_eq c.args.name.now (codes "phandle") ≡ false = ap (λ k. bytes_eq c.args.name.now k) (sym c.as_slice.ensures) ∙ sym c.eq.ensures ∙ c.if-eq.false in (
       open-site (site (node_path s.live c.args.node) c.args.name.now c.args.offset) (patched_lists s).properties (value_at s c.in-Some.row)
-          (value-some s.live c.requires.sound.whole (value_at s) c.args.node c.args.name.now c.in-Some.row c.requires.known found) inside plain other,
+          (value-some s.live c.check.ensures.whole (value_at s) c.args.node c.args.name.now c.in-Some.row c.requires.known found) inside plain other,
       found,
       inside,
     )

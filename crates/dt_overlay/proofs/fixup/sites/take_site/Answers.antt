@@ -6,17 +6,17 @@ use Rattle.dt_overlay.proofs.fixup.sites.take_site.Goals as goal
 pub returns-then-not-branch-clause-step : goal.returns-then-not-branch-clause-step
 returns-then-not-branch-clause-step c = λ x at.
     let s = c.args.patched.now in
-    refused-taken s c.requires.sound x at c.args.node c.args.name.now c.args.offset c.in-Ok.row c.in-Ok.ensures.1 c.in-Ok.ensures.0
+    refused-taken s c.check.ensures x at c.args.node c.args.name.now c.args.offset c.in-Ok.row c.in-Ok.ensures.1 c.in-Ok.ensures.0
     c.in_ok-take.field-0 c.in_ok-take.ensures.free c.if-not-branch.true
 
 pub returns-clause-step : goal.returns-clause-step
 returns-clause-step c = λ x at.
     let s = c.args.patched.now in
-    taken-free s c.requires.sound x at c.args.node c.args.name.now c.args.offset c.in-Ok.row c.in-Ok.ensures.1 c.in-Ok.ensures.0
+    taken-free s c.check.ensures x at c.args.node c.args.name.now c.args.offset c.in-Ok.row c.in-Ok.ensures.1 c.in-Ok.ensures.0
     c.in_ok-take.field-0 c.in_ok-take.ensures.free c.if-not-branch.false c.take.new.self c.in_ok-take.ensures.live c.in_ok-take.ensures.values c.in_ok-take.ensures.marks
 
 pub take-requires-clause-known : goal.take-requires-clause-known
-take-requires-clause-known c = (row-there c.args.patched.now.live c.requires.sound.whole c.args.node c.args.name.now c.in-Ok.row c.in-Ok.ensures.1).0
+take-requires-clause-known c = (row-there c.args.patched.now.live c.check.ensures.whole c.args.node c.args.name.now c.in-Ok.row c.in-Ok.ensures.1).0
 
 pub take-requires-clause-fits : goal.take-requires-clause-fits
 take-requires-clause-fits c = c.in-Ok.ensures.2

@@ -10,7 +10,7 @@ pub returns-in_default-clause-step : goal.returns-in_default-clause-step
 returns-in_default-clause-step c =
     let s = c.args.patched.now in
     let p = c.args.fixup.site in
-    site-missing s c.requires.sound (path_names p.path.now) p.name.now p.offset (path-nowhere s.live c.requires.sound.whole (path_names p.path.now) c.in_default.ensures.path)
+    site-missing s c.check.ensures (path_names p.path.now) p.name.now p.offset (path-nowhere s.live c.check.ensures.whole (path_names p.path.now) c.in_default.ensures.path)
 
 pub returns-clause-step : goal.returns-clause-step
 returns-clause-step c = λ x at.

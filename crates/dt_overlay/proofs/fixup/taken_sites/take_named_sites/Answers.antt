@@ -37,7 +37,6 @@ loop-fixup-preserved c =
     let os = c.loop-fixup.taken.items in
     let o = c.in-Ok.site in
     record {
-      sound = c.in-Ok.ensures.sound;
       live = c.in-Ok.ensures.live ∙ c.loop-fixup.invariant.live;
       reached =
           reached-more (takes (map fixup_named all)) (takes (map fixup_named (drop i all))) (take_site (fixup_named f).at) (takes (map fixup_named (drop (i + 1) all)))

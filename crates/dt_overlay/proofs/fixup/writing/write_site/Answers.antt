@@ -24,4 +24,4 @@ returns-clause-lengths c = λ k.
 
 pub returns-clause-written : goal.returns-clause-written
 returns-clause-written c =
-    written-at c.args.patched.now c.requires.sound c.write.new.self c.in_ok-write.ensures.live c.args.site.row c.args.site.offset (to_be_bytes w32 c.args.phandle) c.requires.inside.0 c.in_ok-write.ensures.values
+    written-at c.args.patched.now c.check.ensures c.write.new.self c.in_ok-write.ensures.live c.args.site.row c.args.site.offset (to_be_bytes w32 c.args.phandle) c.requires.inside.0 c.in_ok-write.ensures.values

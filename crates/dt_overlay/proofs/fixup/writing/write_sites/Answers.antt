@@ -27,13 +27,15 @@ returns-in-Err-clause-written c =
     c.loop-site.invariant.written ∙ writes-more base d all i o below (get_or_default all i blank o below) es
     ∙ ap (λ r. then_do r (writes base (map (fixup_taken d) (drop (i + 1) all)))) (resolve-none base (fixup_taken d o) es c.in-Err.ensures)
 
-pub write_site-requires-clause-inside : goal.write_site-requires-clause-inside
-write_site-requires-clause-inside c =
+pub write_site-requires : goal.write_site-requires
+write_site-requires c =
     let all = c.args.sites.now in
     let i = c.loop-site.site-index in
     let o : TakenSite = get_or all i blank in
     let h = c.requires.inside i blank c.loop-site-test.true in
-    (subst (λ (d : LiveTree Lent). o.row < length d.properties.items) (sym c.loop-site.invariant.live) h.0, omega (arith, h.1, c.loop-site.invariant.lengths o.row))
+    record {
+      inside = (subst (λ (d : LiveTree Lent). o.row < length d.properties.items) (sym c.loop-site.invariant.live) h.0, omega (arith, h.1, c.loop-site.invariant.lengths o.row));
+    }
 
 pub loop-site-preserved : goal.loop-site-preserved
 loop-site-preserved c =
@@ -47,7 +49,6 @@ loop-site-preserved c =
     let bytes = to_be_bytes w32 c.in-Ok.phandle in
     let rest = map (fixup_taken d) (drop (i + 1) all) in
     record {
-      sound = c.in_ok-write_site.ensures.sound;
       live = c.in_ok-write_site.ensures.live ∙ c.loop-site.invariant.live;
       lengths = λ k. c.in_ok-write_site.ensures.lengths k ∙ c.loop-site.invariant.lengths k;
       last = c.in-Ok.ensures;
