@@ -43,6 +43,7 @@ impl Marks {
     }
 
     /// Whether one of them has a class.
+    #[inline(always)]
     pub(crate) fn may_have(&self, class: usize) -> bool
         ensures { result ≡ slice_index_or self.now.classes class false }
     {

@@ -95,6 +95,7 @@ impl<'t> Placed<'t> {
     }
 
     /// Whether the node may have a property whose name has this class: a quick look.
+    #[inline(always)]
     pub fn may_have(&self, class: usize) -> bool
         ensures { result ≡ false → (name : List ℕ) → class_of name ≡ class
             → has self.now.node.properties name ≡ false }

@@ -22,11 +22,20 @@ fn visit<'t>(
     Ok(())
 }
 
+// How many nodes a tree has: room is taken once for all of them.
+fn count_in(node: &Node) -> usize {
+    let mut count: usize = 1;
+    for child in node.children() {
+        count = count.saturating_add(count_in(child));
+    }
+    count
+}
+
 /// The nodes of the tree of this root, each before those below it.
 pub fn nodes_of(alloc: Global, root: &Node) -> Result<Vec<Placed<'_>>, AllocError>
     ensures { IfOk result (λ nodes. nodes.items ≡ tree_nodes root.now) }
 {
-    let mut nodes = Vec::new(alloc);
+    let mut nodes = Vec::with_capacity(alloc, count_in(root))?;
     visit(&mut nodes, root, None)?;
     Ok(nodes)
 }

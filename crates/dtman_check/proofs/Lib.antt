@@ -1,0 +1,5 @@
+pub mod FoundLemmas
+pub mod OrderLemmas
+pub mod RowLemmas
+pub mod UnitsLemmas
+pub mod UnknownLemmas

@@ -6,6 +6,7 @@ use Rattle.std.specs.Option.{option_map_or}
 use Rattle.dt_tree.specs.NodeData.{NodeData}
 use Rattle.dt_check.specs.Nodes.{PlacedData, tree_nodes}
 use Rattle.dt_live.specs.declared.making.places.Places.{Places}
+use Rattle.dtman_check.specs.declared.table.reference.Row.{Row}
 use Rattle.dtman_check.specs.declared.table.selection.Least.{Least}
 use Rattle.dtman_check.specs.declared.table.selection.Least.TheVariants.{Warning, Error}
 use Rattle.dtman_check.specs.declared.table.selection.Level.{Level}
@@ -36,7 +37,7 @@ nodes_in None root = tree_nodes root
 nodes_in (Some p) root = take (written_count p 0 (tree_nodes root)) (tree_nodes root)
 
 -- a run of the checks over the tree of this root, as its source has it where there is one, and whether an error stands
-abbrev pub Judges : Option Places → NodeData → SelectionData → ℕ → Bool → Type 0
-Judges written root selection quiet failed =
+abbrev pub Judges : List Row → Option Places → NodeData → SelectionData → ℕ → Bool → Type 0
+Judges known written root selection quiet failed =
     (findings : List FindingData)
-    × Tells (nodes_in written root) written selection (least_of quiet) findings failed
+    × Tells known (nodes_in written root) written selection (least_of quiet) findings failed

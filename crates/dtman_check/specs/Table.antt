@@ -4,3 +4,5 @@ pub mod Private
 pub mod Rules
 pub mod Run
 pub mod Selected
+pub mod Units
+pub mod Unknown

@@ -231,7 +231,7 @@ pub fn check_tree(
     asked: Asked<'_>,
 ) -> Result<Answer, AllocError>
     ensures { IfOk result (λ answer.
-        Judges (places_in asked.entry.source) tree.now.root selection.now asked.entry.quiet answer.failed) }
+        Judges asked.entry.reference.now (places_in asked.entry.source) tree.now.root selection.now asked.entry.quiet answer.failed) }
 {
     let written = places_in(asked.source);
     let survey = survey_of(alloc, hasher, tree, written)?;
@@ -267,7 +267,7 @@ pub fn check_blob(
     asked: Asked<'_>,
 ) -> Result<Answer, BlobError>
     ensures { IfOk result (λ answer. (tree : TreeData) × Holds blob.now tree
-        × Judges (places_in asked.entry.source) tree.root selection.now asked.entry.quiet answer.failed) }
+        × Judges asked.entry.reference.now (places_in asked.entry.source) tree.root selection.now asked.entry.quiet answer.failed) }
 {
     let tree = read(alloc, blob)?;
     Ok(check_tree(alloc, hasher, &tree, selection, asked)?)

@@ -3,6 +3,7 @@
 mod check;
 mod finding;
 mod finding_all;
+mod looking;
 mod near;
 mod reference;
 mod rule;

@@ -1,7 +1,7 @@
 -- Which checks are asked for (dtc's manual, Documentation/manual.txt, section 'Command-line arguments', -W and -E; the names are said by
 -- `dtc -W`): a check warns, is an error, or neither. With one that is asked for go those that it stands on; with one that isn't, those
 -- that stand on it.
-use Rattle.std.specs.Prelude.{ℕ, ◌+◌, Bool, true, false, not, ◌&&◌, ◌||◌, ◌==◌, if◌then◌else◌, List, [], ◌∷◌, Option, Some, None}
+use Rattle.std.specs.Prelude.{ℕ, ◌+◌, Bool, true, false, not, ◌&&◌, ◌||◌, ◌==◌, if◌then◌else◌, List, [], ◌∷◌}
 use Rattle.std.specs.Option.{option_map_or}
 use Rattle.std.specs.List.{slice_get, list_any}
 use Rattle.dtman_check.specs.declared.table.check.Check.{Check}

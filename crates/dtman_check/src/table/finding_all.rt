@@ -1,31 +1,25 @@
 //! What a check finds in a tree.
-ghost use Rattle.std.specs.Prelude.{◌≡◌, ◌++◌, [], false, ℕ, List, Option, OnOk};
+ghost use Rattle.std.specs.Prelude.{◌≡◌, ◌++◌, OnOk, Some};
 ghost use Rattle.std.specs.Option.{option_copied};
-ghost use Rattle.dt_tree.specs.NodeData.{NodeData};
-ghost use Rattle.dt_check.specs.Nodes.{PlacedData, here_of};
-ghost use Rattle.dt_check.specs.UnitRules.{has_unit};
-ghost use Rattle.dt_check.specs.declared.links.lists.Listing.{Listing};
-ghost use Rattle.dt_live.specs.declared.making.places.Places.{Places};
+ghost use Rattle.dt_check.specs.Nodes.{here_of};
 ghost use Rattle.dtman_check.specs.Table.Found.{added, added_link, found_by_rules, found_in_properties, found_by_links};
 ghost use Rattle.dtman_check.specs.Table.Found.{added_all, is_listed, has_lists, references_at, found_in_list, found_in_lists};
-ghost use Rattle.dtman_check.specs.Table.Private.Classes.{classes_among, classes_listed, classes_of};
+ghost use Rattle.dtman_check.specs.Table.Private.Classes.{classes_of};
 ghost use Rattle.dtman_check.specs.Table.Found.{alias_fault_in, found_aliases, is_among, found_here, found_from, found};
 
 use crate::table::check::{Among, Finds, Listed};
 use crate::table::finding::Finding;
+use crate::table::looking::{Classes, classes_of, finds_nothing, has_unit, may_find, next_with};
 use crate::table::rule::{LinkRule, PropertyRule, Rule};
 use crate::table::subject::Subject;
 use dt_check::links::{LinkFault, Listing, alias_fault, is_of, list_faults};
-use dt_check::{
-    Fault, Graph, Here, Placed, Survey, children, class_of, has, is_gpio, is_named, is_same,
-    unit_address,
-};
+use dt_check::{Fault, Here, Placed, Survey, children, has, is_gpio, is_named, is_same};
 use dt_live::making::Places;
-use dt_tree::{Node, Property};
+use dt_tree::Property;
 use std::alloc::AllocError;
 
-// Puts a fault of a node last, where there is one.
-fn add<'t>(
+/// Puts a fault of a node last, where there is one.
+pub(crate) fn add<'t>(
     findings: &mut Vec<Finding<'t>>,
     check: usize,
     place: usize,
@@ -228,12 +222,6 @@ fn find_aliases<'t>(
     Ok(())
 }
 
-fn has_unit(node: &Node) -> bool
-    ensures { result ≡ has_unit node.now }
-{
-    !unit_address(node.name_bytes()).is_empty()
-}
-
 // Whether a check of these nodes looks at one.
 fn is_among(here: &Here<'_>, among: Among) -> bool
     ensures { result ≡ is_among among here.now }
@@ -299,124 +287,41 @@ fn find_here<'t>(
     }
 }
 
-// The classes of the names that a check asks nodes for, for a quick look at each: of one name twice, of none 0.
-#[derive(Clone, Copy)]
-pub(crate) struct Classes {
-    first: usize,
-    second: usize,
-}
-
-fn classes_among(among: Among) -> Classes
-    ensures { result ≡ classes_among among }
+// What a check finds that asks for names of these classes.
+fn find_with<'t>(
+    findings: &mut Vec<Finding<'t>>,
+    check: usize,
+    finds: Finds,
+    classes: Classes,
+    subject: Subject<'_, 't>,
+    nodes: &[Placed<'t>],
+) -> Result<(), AllocError>
+    requires { classes_of finds ≡ Some classes }
+    ensures { OnOk result (findings.new.items ≡ findings.old.items
+        ++ found_from check finds subject.entry.survey.now (option_copied subject.entry.written) 0 nodes.now) }
 {
-    match among {
-        Among::With(name) => Classes {
-            first: class_of(name),
-            second: class_of(name),
-        },
-        Among::WithEither(name, other) => Classes {
-            first: class_of(name),
-            second: class_of(other),
-        },
-        Among::All | Among::Part(_) | Among::Named(_) | Among::Parents | Among::WithUnit =>
-            Classes {
-                first: 0,
-                second: 0,
-            },
+    let mut place = next_with(nodes, 0, classes);
+    while place < nodes.len() {
+        let here = subject.survey.here(&nodes[place]);
+        find_here(findings, check, finds, subject, &here, place)?;
+        place = next_with(nodes, place + 1, classes);
     }
-}
-
-fn classes_listed(listed: Listed) -> Classes
-    ensures { result ≡ classes_listed listed }
-{
-    match listed {
-        Listed::Named(name) => Classes {
-            first: class_of(name),
-            second: class_of(name),
-        },
-        Listed::Lines => Classes {
-            first: 0,
-            second: 0,
-        },
-    }
-}
-
-fn classes_of(finds: Finds) -> Classes
-    ensures { result ≡ classes_of finds }
-{
-    match finds {
-        Finds::Node(among, _) | Finds::Links(among, _) => classes_among(among),
-        Finds::Lists(listed, _) => classes_listed(listed),
-        Finds::Nothing | Finds::Units(_) | Finds::Unknown | Finds::Properties(_) | Finds::Aliases =>
-            {
-                Classes {
-                    first: 0,
-                    second: 0,
-                }
-            }
-    }
-}
-
-// A quick look whether a check of these nodes may look at one.
-fn may_be_among(placed: &Placed<'_>, among: Among, classes: Classes) -> bool
-    requires { classes ≡ classes_among among }
-    ensures { result ≡ false → (above : Option NodeData)
-        → is_among among (record { node = placed.now.node; above = above }) ≡ false }
-{
-    match among {
-        Among::With(_) => placed.may_have(classes.first),
-        Among::WithEither(_, _) => placed.may_have(classes.first)
-            || placed.may_have(classes.second),
-        Among::All | Among::Part(Graph::Endpoint) => true,
-        Among::Part(Graph::Port) => placed.is_port(),
-        Among::Named(name) => is_named(placed.node(), name),
-        Among::Parents => !children(placed.node()).is_empty(),
-        Among::WithUnit => has_unit(placed.node()),
-    }
-}
-
-// A quick look whether a node may have such lists.
-fn may_have_lists(placed: &Placed<'_>, listed: Listed, classes: Classes) -> bool
-    requires { classes ≡ classes_listed listed }
-    ensures { result ≡ false
-        → (check : ℕ) (listing : Listing) (nodes : List PlacedData) (written : Option Places) (place index : ℕ)
-        → found_in_lists check listed listing nodes written place index placed.now.node.properties ≡ [] }
-{
-    match listed {
-        Listed::Named(_) => placed.may_have(classes.first),
-        Listed::Lines => true,
-    }
-}
-
-// A quick look whether a check may find something in a node.
-fn may_find(placed: &Placed<'_>, finds: Finds, classes: Classes) -> bool
-    requires { classes ≡ classes_of finds }
-    ensures { result ≡ false → (check : ℕ) (nodes : List PlacedData) (written : Option Places) (place : ℕ)
-        → found_here check finds nodes written place (here_of nodes placed.now) ≡ [] }
-{
-    match finds {
-        Finds::Node(among, _) | Finds::Links(among, _) => may_be_among(placed, among, classes),
-        Finds::Lists(listed, _) => may_have_lists(placed, listed, classes),
-        Finds::Nothing | Finds::Units(_) | Finds::Unknown => false,
-        Finds::Properties(_) | Finds::Aliases => true,
-    }
+    Ok(())
 }
 
 fn find_at<'t>(
     findings: &mut Vec<Finding<'t>>,
     check: usize,
     finds: Finds,
-    classes: Classes,
     subject: Subject<'_, 't>,
     placed: &Placed<'t>,
     place: usize,
 ) -> Result<(), AllocError>
-    requires { classes ≡ classes_of finds }
     ensures { OnOk result (findings.new.items ≡ findings.old.items
         ++ found_here check finds subject.entry.survey.now (option_copied subject.entry.written) place
         (here_of subject.entry.survey.now placed.now)) }
 {
-    if !may_find(placed, finds, classes) {
+    if !may_find(placed, finds) {
         return Ok(());
     }
     find_here(
@@ -429,6 +334,23 @@ fn find_at<'t>(
     )
 }
 
+// What any check finds, node by node.
+fn find_each<'t>(
+    findings: &mut Vec<Finding<'t>>,
+    check: usize,
+    finds: Finds,
+    subject: Subject<'_, 't>,
+    nodes: &[Placed<'t>],
+) -> Result<(), AllocError>
+    ensures { OnOk result (findings.new.items ≡ findings.old.items
+        ++ found_from check finds subject.entry.survey.now (option_copied subject.entry.written) 0 nodes.now) }
+{
+    for (place, placed) in nodes.iter().enumerate() {
+        find_at(findings, check, finds, subject, placed, place)?;
+    }
+    Ok(())
+}
+
 fn find_in<'t>(
     findings: &mut Vec<Finding<'t>>,
     check: usize,
@@ -439,11 +361,13 @@ fn find_in<'t>(
     ensures { OnOk result (findings.new.items ≡ findings.old.items
         ++ found_from check finds subject.entry.survey.now (option_copied subject.entry.written) 0 nodes.now) }
 {
-    let classes = classes_of(finds);
-    for (place, placed) in nodes.iter().enumerate() {
-        find_at(findings, check, finds, classes, subject, placed, place)?;
+    if finds_nothing(finds) {
+        return Ok(());
     }
-    Ok(())
+    match classes_of(finds) {
+        Some(classes) => find_with(findings, check, finds, classes, subject, nodes),
+        None => find_each(findings, check, finds, subject, nodes),
+    }
 }
 
 /// Puts what a check at this place of the table finds last: node by node in preorder, in each node rule by rule or property by property.

@@ -1,7 +1,7 @@
 use Rattle.std.proofs.Common.{◌≡◌, ◌++◌, drop}
 use Rattle.std.specs.Option.{option_copied}
 use Rattle.dtman_check.specs.Table.Found.{found_from}
-use Rattle.dtman_check.proofs.table.finding_all.find_in.Given as goal
+use Rattle.dtman_check.proofs.table.finding_all.find_each.Given as goal
 
 -- what is found so far and what is left to find is the whole
 abbrev pub invariant-loop-place : goal.invariant-loop-place

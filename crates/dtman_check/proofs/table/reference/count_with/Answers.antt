@@ -1,0 +1,10 @@
+use Rattle.std.proofs.Common.{rules}
+use Rattle.std.proofs.lemmas.List.Sorted.{IsPartitionPoint-from_clause}
+use Rattle.dtman_check.specs.Table.Private.Reference.{is_upto}
+use Rattle.dtman_check.proofs.OrderLemmas.{parted-upto}
+use Rattle.dtman_check.proofs.table.reference.count_with.Goals as goal
+
+pub returns : goal.returns
+returns c =
+    IsPartitionPoint-from_clause (is_upto c.args.compatible.now) _ _ c.partition_point.ensures.partitioned
+    (parted-upto c.args.rows.now c.args.compatible.now c.requires) (λ a r q k. search rules)

@@ -1,0 +1,16 @@
+use Rattle.std.proofs.Common.{◌≡◌, ℕ, ◌≤◌, ◌&&◌, List, drop}
+use Rattle.std.specs.List.{position_from}
+use Rattle.std.specs.Str.{bytes_eq}
+use Rattle.dtman_check.specs.declared.table.reference.Row.{Row}
+use Rattle.dtman_check.specs.Table.Private.Reference.{AreRowsOf}
+use Rattle.dtman_check.specs.Table.Unknown.{row_of}
+use Rattle.dtman_check.proofs.table.unknown.is_known.Given as goal
+
+-- no row that was passed is the one
+abbrev pub invariant-loop-place : goal.invariant-loop-place
+invariant-loop-place l = record {
+  behind : l.fn.places.first ≤ l.place;
+  passed : (list : List ℕ) → AreRowsOf l.reference list l.fn.places
+      → row_of l.reference list (λ known. bytes_eq known l.name)
+      ≡ position_from (λ (r : Row). bytes_eq r.compatible.now list && bytes_eq r.name.now l.name) l.place (drop l.place l.reference);
+}
