@@ -23,4 +23,6 @@ mod trees;
 #[cfg(test)]
 mod versions;
 #[cfg(test)]
+mod view_values;
+#[cfg(test)]
 mod views;

@@ -112,7 +112,7 @@ IsMet (Set blob path property values kind out) name rows =
     (name ≡ codes "set") × (first_of (codes "BLOB") rows ≡ Some blob.now) × (first_of (codes "PATH") rows ≡ Some path.now)
     × (first_of (codes "PROPERTY") rows ≡ Some property.now) × (map (λ word. word.now) values.items ≡ texts_of (codes "VALUE") rows)
     × IsText kind (codes "type") rows × IsText out (codes "out") rows
-IsMet (Explain number) name rows = (name ≡ codes "explain") × (first_of (codes "NUMBER") rows ≡ Some number.now)
+IsMet (Explain number) name rows = (name ≡ codes "explain") × (unwrap_or (first_of (codes "NUMBER") rows) (codes "all") ≡ number.now)
 
 pub record Meets (command : Command) (met : Option (Text × List Row)) : Type 0 where
   pub name : Text

@@ -144,7 +144,7 @@ set =
     (lettered (codes "out") 111)
 
 abbrev pub explain : App
-explain = with_rule (new_app (codes "explain")) (required (codes "NUMBER"))
+explain = with_rule (new_app (codes "explain")) (optional (codes "NUMBER"))
 
 -- the program, with a version, which wants a subcommand
 abbrev pub top : App

@@ -177,7 +177,7 @@ fn no_blob<'a, S: Surroundings, E: Eprint, T>(
     error: BlobError,
 ) -> Failure<'a> {
     let blob = file_of(subject.path, subject.given.blob());
-    host.refusal(Fault::from(error), Inputs::Blob(blob))
+    host.refusal(host.blob_fault(blob.bytes, error), Inputs::Blob(blob))
 }
 
 // ---- which checks are made

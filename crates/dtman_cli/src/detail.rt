@@ -24,11 +24,10 @@ pub struct Asked<'a> {
     pub detail: Detail,
 }
 
-/// Takes the words that ask for detail out, but for `--json` behind `check`, which has that option itself, and lets `explain` alone ask
-/// for all errors.
+/// Takes the words that ask for detail out, but for `--json` behind `check`, which has that option itself.
 pub fn asked_for<'a>(alloc: Global, words: &[&'a str]) -> Result<Asked<'a>, AllocError> {
     let mut asked = Asked {
-        words: Vec::with_capacity(alloc, words.len().saturating_add(1))?,
+        words: Vec::with_capacity(alloc, words.len())?,
         detail: Detail::Line,
     };
     let mut options = true;
@@ -45,9 +44,6 @@ pub fn asked_for<'a>(alloc: Global, words: &[&'a str]) -> Result<Asked<'a>, Allo
             }
             _ => asked.words.push(*word)?,
         }
-    }
-    if asked.words.len() == 2 && asked.words.last().copied() == Some("explain") {
-        asked.words.push("all")?;
     }
     Ok(asked)
 }

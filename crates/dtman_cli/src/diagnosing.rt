@@ -1,11 +1,15 @@
 //! What each command's refusal is of, by the files that it was given.
+ghost use Rattle.std.specs.Prelude.{◌≡◌};
+ghost use Rattle.dtman_engine.specs.BlobFaults.{blob_fault};
+ghost use Rattle.dtman_engine.specs.Fault.{fault_value};
 
+use dt_blob::{BlobError, ReadError, read};
 use dtman_diagnosis::{
-    BusText, Devices, Diagnosis, Refused, TextKind, before_event, diagnose_blob, diagnose_device,
-    diagnose_dtc, diagnose_event, diagnose_node, diagnose_overlay, diagnose_plan, diagnose_source,
-    diagnose_text,
+    BusText, Devices, Diagnosis, OverlayCulprit, Refused, TextKind, before_event, diagnose_blob,
+    diagnose_device, diagnose_dtc, diagnose_event, diagnose_node, diagnose_overlay, diagnose_plan,
+    diagnose_source, diagnose_text,
 };
-use dtman_engine::{Culprit, Fault, Position, replay_bytes};
+use dtman_engine::{BlobRole, Culprit, Fault, Position, Unread, replay_bytes};
 use std::alloc::{AllocError, Global};
 use std::hash::RandomState;
 
@@ -71,26 +75,17 @@ pub fn diagnosed(alloc: Global, inputs: Inputs<'_>, fault: Fault) -> Result<Diag
     match inputs {
         Inputs::Source(text) => diagnose_source(alloc, text.name, text.bytes, refused),
         Inputs::Whole(text) => diagnose_dtc(alloc, text.name, text.bytes, refused),
-        Inputs::Overlay { base, overlay } => diagnose_overlay(
-            alloc,
-            base.name,
-            base.bytes,
-            overlay.name,
-            overlay.bytes,
-            number,
-            match fault.culprit {
-                Some(Culprit::Overlay(error)) => Some(error),
-                _ => None,
-            },
-        ),
-        Inputs::Blob(blob) => diagnose_blob(alloc, blob.name, blob.bytes, number),
+        Inputs::Overlay { base, overlay } => unapplied(alloc, base, overlay, fault),
+        Inputs::Blob(blob) => {
+            diagnose_blob(alloc, blob.name, blob.bytes, number, word_refused(fault))
+        }
         Inputs::Node {
             blob,
             path,
             property,
         } => match number {
             53 => diagnose_node(alloc, blob.name, blob.bytes, path, Some(property)),
-            _ => diagnose_blob(alloc, blob.name, blob.bytes, number),
+            _ => diagnose_blob(alloc, blob.name, blob.bytes, number, word_refused(fault)),
         },
         Inputs::Plan(planned) => unplanned(alloc, planned, fault),
         Inputs::Reference(text) => diagnose_text(
@@ -104,6 +99,54 @@ pub fn diagnosed(alloc: Global, inputs: Inputs<'_>, fault: Fault) -> Result<Diag
             schedule,
             hasher,
         } => unreplayed(alloc, hasher, plan, schedule, fault),
+    }
+}
+
+/// The fault of a blob that is refused without its word, which the reader tells.
+pub fn blob_fault(alloc: Global, blob: &[u8], error: BlobError) -> Fault
+    ensures { fault_value result ≡ blob_fault error }
+{
+    match read(alloc, blob) {
+        Err(refused) if refused.kind == error => Fault::of_blob(BlobRole::Sole, refused),
+        _ => Fault::from(error),
+    }
+}
+
+// The word of a blob that is refused, where the fault tells one.
+fn word_refused(fault: Fault) -> Option<ReadError> {
+    match fault.culprit {
+        Some(Culprit::Blob(Unread { refused, .. })) => Some(refused),
+        _ => None,
+    }
+}
+
+// What an overlay on a base refuses.
+fn unapplied(
+    alloc: Global,
+    base: Given<'_>,
+    overlay: Given<'_>,
+    fault: Fault,
+) -> Result<Diagnosis, AllocError> {
+    diagnose_overlay(
+        alloc,
+        base.name,
+        base.bytes,
+        overlay.name,
+        overlay.bytes,
+        fault.number,
+        overlay_culprit(fault),
+    )
+}
+
+// What an overlay's refusal is of.
+fn overlay_culprit(fault: Fault) -> Option<OverlayCulprit> {
+    match fault.culprit {
+        Some(Culprit::Overlay(error)) => Some(OverlayCulprit::Place(error)),
+        Some(Culprit::Blob(Unread { role, refused })) => Some(match role {
+            BlobRole::Applied => OverlayCulprit::Applied(refused),
+            BlobRole::Sole | BlobRole::Base => OverlayCulprit::Base(refused),
+        }),
+        Some(Culprit::Property(_)) | None => None,
     }
 }
 
@@ -138,7 +181,7 @@ fn unplanned(alloc: Global, planned: Planned<'_>, fault: Fault) -> Result<Diagno
             };
             diagnose_plan(alloc, blob.name, blob.bytes, fault.number, property)
         }
-        _ => diagnose_blob(alloc, blob.name, blob.bytes, fault.number),
+        number => diagnose_blob(alloc, blob.name, blob.bytes, number, word_refused(fault)),
     }
 }
 

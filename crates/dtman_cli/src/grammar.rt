@@ -371,6 +371,6 @@ fn explain<'a>(alloc: Global) -> Result<Command<'a>, AllocError>
     ensures { IfOk result (λ c. (app_of c ≡ spec.explain) × ((out-Command c).has_globals ≡ false)) }
 {
     let about = "Says what an error means and what to do; alone it lists all";
-    let word = "The number behind `error`, or the name";
-    named(alloc, "explain", about).arg(required(alloc, "NUMBER", word))
+    let word = "The number behind `error`, or the name; where none is named, all";
+    named(alloc, "explain", about).arg(optional(alloc, "NUMBER", word))
 }

@@ -1,10 +1,14 @@
 //! What a command works with: files, threads, standard error, and how much a refusal tells.
+ghost use Rattle.std.specs.Prelude.{◌≡◌};
+ghost use Rattle.dtman_engine.specs.BlobFaults.{blob_fault};
+ghost use Rattle.dtman_engine.specs.Fault.{fault_value};
 
 use crate::detail::{Detail, told};
-use crate::diagnosing::Inputs;
+use crate::diagnosing::{Inputs, blob_fault};
 use crate::failure::Failure;
 use crate::files::{read_at, seed, text_at};
 use crate::surroundings::Surroundings;
+use dt_blob::BlobError;
 use dtman_engine::{Fault, MAX_BLOB_LEN, MAX_SOURCE_LEN};
 use std::alloc::Global;
 use std::hash::RandomState;
@@ -62,6 +66,16 @@ impl<S: Surroundings, E: Eprint, T> Host<'_, S, E, T> {
         let text = str::from_utf8(lines).unwrap_or("error\n");
         // Standard error is the last place to say anything: the status stands alone where it is closed.
         let _ = eprint!(self.errors; "{text}");
+    }
+
+    /// The fault of a blob that is refused without its word: that is looked for where more than a line is told.
+    pub fn blob_fault(&self, blob: &[u8], error: BlobError) -> Fault
+        ensures { fault_value result ≡ blob_fault error }
+    {
+        match self.detail {
+            Detail::Line => Fault::from(error),
+            _ => blob_fault(self.alloc, blob, error),
+        }
     }
 
     /// A refusal of what was read, as it is told: by its line, or in detail.

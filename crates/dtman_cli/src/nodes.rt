@@ -5,6 +5,7 @@ use crate::failure::Failure;
 use crate::host::Host;
 use crate::performing::Answer;
 use crate::surroundings::Surroundings;
+use dt_blob::BlobError;
 use dt_blob::query::QueryError;
 use dtman_blobs::{
     AskError, DiffError, Sameness, ShowError, Titles, ValueType, diff_bytes, list_text, node_text,
@@ -55,13 +56,32 @@ fn fault_of(error: QueryError) -> Fault {
     }
 }
 
-// What a refusal of a blob is of that a node is asked for.
-fn inputs_of<'i>(blob: Given<'i>, asked: Asked<'i>) -> Inputs<'i> {
-    Inputs::Node {
+// Why nothing is found in a blob.
+fn unfound<'a, S: Surroundings, E: Eprint, T>(
+    host: &Host<'_, S, E, T>,
+    blob: Given<'_>,
+    asked: Asked<'_>,
+    error: QueryError,
+) -> Failure<'a> {
+    let fault = match error {
+        QueryError::Blob(error) => host.blob_fault(blob.bytes, error),
+        QueryError::NoNode | QueryError::NoProperty => unknown_path(),
+    };
+    let inputs = Inputs::Node {
         blob,
         path: asked.path.as_bytes(),
         property: asked.property.as_bytes(),
-    }
+    };
+    host.refusal(fault, inputs)
+}
+
+// The refusal of one that is no blob.
+fn no_blob<'a, S: Surroundings, E: Eprint, T>(
+    host: &Host<'_, S, E, T>,
+    blob: Given<'_>,
+    error: BlobError,
+) -> Failure<'a> {
+    host.refusal(host.blob_fault(blob.bytes, error), Inputs::Blob(blob))
 }
 
 // Why a blob has no answer.
@@ -108,14 +128,8 @@ pub fn compared<'a, S: Surroundings, E: Eprint, T>(
     match text {
         Ok(text) if text.is_empty() => Ok(Answer::Text(text)),
         Ok(text) => Ok(Answer::Failing(text)),
-        Err(DiffError::First(error)) => {
-            let inputs = Inputs::Blob(file_of(first_path, &first));
-            Err(host.refusal(Fault::from(error), inputs))
-        }
-        Err(DiffError::Second(error)) => {
-            let inputs = Inputs::Blob(file_of(second_path, &second));
-            Err(host.refusal(Fault::from(error), inputs))
-        }
+        Err(DiffError::First(error)) => Err(no_blob(host, file_of(first_path, &first), error)),
+        Err(DiffError::Second(error)) => Err(no_blob(host, file_of(second_path, &second), error)),
         Err(DiffError::Text(error)) => Err(Failure::Refused(Fault::from(error))),
     }
 }
@@ -142,10 +156,7 @@ pub fn valued<'a, S: Surroundings, E: Eprint, T>(
     };
     match answer {
         Ok(text) => Ok(Answer::Text(text)),
-        Err(AskError::Query(error)) => {
-            let inputs = inputs_of(file_of(blob_path, &blob), asked);
-            Err(host.refusal(fault_of(error), inputs))
-        }
+        Err(AskError::Query(error)) => Err(unfound(host, file_of(blob_path, &blob), asked, error)),
         Err(error) => Err(unanswered(asked, error)),
     }
 }
@@ -165,10 +176,7 @@ pub fn listed<'a, S: Surroundings, E: Eprint, T>(
     };
     match list_text(host.alloc, blob.as_slice(), path) {
         Ok(text) => Ok(Answer::Text(text)),
-        Err(AskError::Query(error)) => {
-            let inputs = inputs_of(file_of(blob_path, &blob), asked);
-            Err(host.refusal(fault_of(error), inputs))
-        }
+        Err(AskError::Query(error)) => Err(unfound(host, file_of(blob_path, &blob), asked, error)),
         Err(error) => Err(unanswered(asked, error)),
     }
 }
@@ -198,10 +206,7 @@ pub fn changed<'a, S: Surroundings, E: Eprint, T>(
             path: out.unwrap_or(asked.blob),
             bytes,
         }),
-        Err(AskError::Query(error)) => {
-            let inputs = inputs_of(file_of(asked.blob, &blob), asked);
-            Err(host.refusal(fault_of(error), inputs))
-        }
+        Err(AskError::Query(error)) => Err(unfound(host, file_of(asked.blob, &blob), asked, error)),
         Err(error) => Err(unanswered(asked, error)),
     }
 }

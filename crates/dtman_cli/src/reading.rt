@@ -67,7 +67,7 @@ fn chosen<'a>(alloc: Global, matches: &ArgMatches<'a>) -> Result<Option<Command<
         "get" => Ok(get(given)),
         "ls" => Ok(list(given)),
         "set" => set(alloc, given),
-        "explain" => Ok(explain(given)),
+        "explain" => Ok(Some(explain(given))),
         _ => Ok(None),
     }
 }
@@ -287,12 +287,13 @@ fn set_to<'a>(values: Vec<&'a str>, given: &ArgMatches<'a>) -> Option<Command<'a
     })
 }
 
-fn explain<'a>(given: &ArgMatches<'a>) -> Option<Command<'a>>
-    ensures { IfSome result (λ command. IsMet command (codes "explain") (rows_of (found_of given.now))) }
+fn explain<'a>(given: &ArgMatches<'a>) -> Command<'a>
+    ensures { IsMet result (codes "explain") (rows_of (found_of given.now)) }
 {
-    Some(Command::Explain {
-        number: given.get_str("NUMBER")?,
-    })
+    match given.get_str("NUMBER") {
+        Some(number) => Command::Explain { number },
+        None => Command::Explain { number: "all" },
+    }
 }
 
 /// The board that is asked about.

@@ -5,7 +5,7 @@ use crate::blob_words::{BlobWord, word_behind};
 use crate::diagnosis::{Diagnosis, Location, Note, Subject, copied};
 use crate::natures::nature_of_no_blob;
 use crate::node_path::path_around;
-use dt_blob::{BlobError, ReadError, read};
+use dt_blob::{BlobError, ReadError};
 use std::alloc::{AllocError, Global};
 
 /// A diagnosis of a location with nothing more to say.
@@ -37,17 +37,18 @@ pub(crate) fn of_file_with(
     Ok(diagnosis)
 }
 
-/// What is refused of the blob in the file of this name by this number, 30 to 38.
+/// What is refused of the blob in the file of this name by this number, 30 to 38: the word of it that is refused, where one is.
 pub fn diagnose_blob(
     alloc: Global,
     file: &[u8],
     blob: &[u8],
     number: u8,
+    refused: Option<ReadError>,
 ) -> Result<Diagnosis, AllocError> {
-    match read(alloc, blob) {
-        Err(refused) if refused.kind.number() == number => of_refused(alloc, file, blob, refused),
-        Ok(_) if number == 38 => of_file_with(alloc, file, number, "its text would have more"),
-        _ => of_file(alloc, file, number),
+    match refused {
+        Some(refused) => of_refused(alloc, file, blob, refused),
+        None if number == 38 => of_file_with(alloc, file, number, "its text would have more"),
+        None => of_file(alloc, file, number),
     }
 }
 

@@ -53,7 +53,7 @@ pub use examples::example_of;
 pub use further::{Found, MAX_FURTHER, Recompiler, SourceText, further_faults};
 pub use json::json_of;
 pub use nodes::diagnose_node;
-pub use overlays::diagnose_overlay;
+pub use overlays::{OverlayCulprit, diagnose_overlay};
 pub use refused::Refused;
 pub use sources::{diagnose_draft, diagnose_dtc, diagnose_source, dtc_span, refused_span};
 pub use suppliers::diagnose_plan;

@@ -8,7 +8,18 @@ use dt_overlay::OverlayError;
 use dt_tree::Tree;
 use std::alloc::{AllocError, Global};
 
-/// What `overlay` refuses by this number of the blobs in the files of these names, and the error that it tells where both are trees.
+/// What an overlay's refusal is of.
+#[derive(Clone, Copy, Debug)]
+pub enum OverlayCulprit {
+    /// A word of the base, which is no tree.
+    Base(ReadError),
+    /// A word of the overlay, which is none.
+    Applied(ReadError),
+    /// A place of the overlay, where both are trees.
+    Place(OverlayError),
+}
+
+/// What `overlay` refuses by this number of the blobs in the files of these names.
 pub fn diagnose_overlay(
     alloc: Global,
     base_file: &[u8],
@@ -16,38 +27,24 @@ pub fn diagnose_overlay(
     overlay_file: &[u8],
     overlay: &[u8],
     number: u8,
-    error: Option<OverlayError>,
+    culprit: Option<OverlayCulprit>,
 ) -> Result<Diagnosis, AllocError> {
-    if let Some(error) = error {
-        return of_both(alloc, base, overlay_file, overlay, error);
+    match culprit {
+        Some(OverlayCulprit::Base(refused)) => of_refused(alloc, base_file, base, refused),
+        Some(OverlayCulprit::Applied(refused)) => of_refused(alloc, overlay_file, overlay, refused),
+        Some(OverlayCulprit::Place(error)) => of_both(alloc, base, overlay_file, overlay, error),
+        None => of_result(alloc, number),
     }
-    if let Err(refused) = read(alloc, base) {
-        return of_reading(alloc, base_file, base, refused, number);
-    }
-    if let Err(refused) = read(alloc, overlay) {
-        return of_reading(alloc, overlay_file, overlay, refused, number);
-    }
+}
+
+// What is refused of the blob that both make.
+fn of_result(alloc: Global, number: u8) -> Result<Diagnosis, AllocError> {
     let mut diagnosis = of_location(alloc, Location::Nowhere, number);
     if number == 38 {
         let words = "the tree that the overlay makes would have more";
         diagnosis.notes.push(Note::Words(words))?;
     }
     Ok(diagnosis)
-}
-
-// What is refused by this number of the one of the two that is no blob.
-fn of_reading(
-    alloc: Global,
-    file: &[u8],
-    blob: &[u8],
-    refused: ReadError,
-    number: u8,
-) -> Result<Diagnosis, AllocError> {
-    if refused.kind.number() == number {
-        of_refused(alloc, file, blob, refused)
-    } else {
-        of_file(alloc, file, number)
-    }
 }
 
 // What is refused of an overlay on a base, once both are trees.

@@ -1,16 +1,12 @@
 -- Why a refusal of the reader is explained by the bytes.
-use Rattle.std.proofs.Common.{◌≡◌, ◌↔◌, ◌⊎◌, None, ℕ, List, Result, Ok, Err, Some, IfErr, refl}
+use Rattle.std.proofs.Common.{◌≡◌, ◌↔◌, ◌⊎◌, inl, None, ℕ, List, Result, Ok, Err, Some, refl}
 use Rattle.std.specs.Prelude.{IsErrOf}
 use Rattle.dt_tree.specs.TreeData.{TreeData}
 use Rattle.dt_blob.specs.declared.error.BlobError.{BlobError}
 use Rattle.dt_blob.specs.declared.error.BlobError.TheVariants.{NoMemory, Truncated, BadMagic, BadVersion, BadLayout, BadToken, BadString, PropertyAfterNode, BadTree, TooLarge}
 use Rattle.dt_blob.specs.HeaderWords.{header_fault, reserves_of}
 use Rattle.dt_blob.specs.Holds.{Holds, HaveNoEnd}
-use Rattle.dtman_engine.specs.declared.fault.Fault.{Fault}
-use Rattle.dtman_engine.specs.Dump.{Explains, IsRefusal}
-use Rattle.dtman_engine.specs.Fault.{Tells, fault_value}
-use Rattle.dtman_engine.specs.BlobFaults.{blob_fault}
-use Rattle.std.proofs.Common.{inl}
+use Rattle.dtman_engine.specs.Dump.{Explains}
 
 -- what the reader promises of an error
 pub explained : {T : Type 0} (blob : List ℕ) (e : BlobError)
@@ -31,8 +27,3 @@ explained blob BadString only large cut magic version layout = λ tree held. let
 explained blob PropertyAfterNode only large cut magic version layout = λ tree held. let same = only tree held in cc
 explained blob BadTree only large cut magic version layout = λ tree held. let same = only tree held in cc
 explained blob TooLarge only large cut magic version layout = inl (large.0 refl)
-
-pub refused : {T : Type 0} (blob : List ℕ) (e : BlobError) (result : Result T Fault)
-    → Tells result (blob_fault e) → Explains blob e → IfErr result (λ fault. IsRefusal blob (fault_value fault))
-refused blob e (Ok x) told why = tt
-refused blob e (Err fault) told why = record { error = e; told = told; explained = why }

@@ -3,6 +3,7 @@ mod ChannelLemmas
 mod CompileDtcLemmas
 pub mod CompileLemmas
 mod CopyLemmas
+mod CulpritLemmas
 mod DumpLemmas
 mod ExplainLemmas
 mod HeaderLemmas

@@ -1,21 +1,22 @@
 -- From what the parts answer to what applying an overlay answers.
-use Rattle.std.proofs.Common.{◌≡◌, ◌<◌, ◌↔◌, inl, inr, ℕ, List, length, Some, Result, Ok, Err, IfErr, IsErrAnd, MatchResult, refl, ap, sym, ◌∙◌, subst, arith}
-use Rattle.std.specs.Prelude.{IsErrOf}
+use Rattle.std.proofs.Common.{◌≡◌, ◌<◌, ◌↔◌, inl, inr, ℕ, List, Vec, length, Some, Result, Ok, Err, IfErr, IfOk, MatchResult, refl, ap, sym, ◌∙◌, subst, arith}
+use Rattle.std.specs.Prelude.{IsErrAnd, IsErrOf}
 use Rattle.dt_tree.specs.PathMap.{TreeMap}
 use Rattle.dt_tree.specs.TreeData.{TreeData, IsTree}
 use Rattle.dt_tree.proofs.MapLaws.{same_tree}
 use Rattle.dt_blob.specs.declared.error.BlobError.{BlobError}
-use Rattle.dt_blob.specs.declared.error.BlobError.TheVariants.{NoMemory, TooLarge}
+use Rattle.dt_blob.specs.declared.error.BlobError.TheVariants.{TooLarge}
 use Rattle.dt_blob.specs.HeaderWords.{header_fault}
 use Rattle.dt_blob.specs.Blob.{blob_of}
+use Rattle.dt_blob.specs.Holds.{Holds}
 use Rattle.dt_overlay.specs.Applied.{IsApplied, IsLonger}
 use Rattle.dtman_engine.specs.declared.fault.Fault.{Fault}
 use Rattle.dtman_engine.specs.Private.Writing.{CannotWrite}
 use Rattle.dtman_engine.specs.Dump.{Explains, IsUnread}
-use Rattle.dtman_engine.specs.Fault.{Tells, FaultValue, fault_value}
+use Rattle.dtman_engine.specs.Fault.{Answer, FaultValue, fault_value, no_memory}
 use Rattle.dtman_engine.specs.BlobFaults.{blob_fault}
 use Rattle.dtman_engine.specs.Limits.{blob_limit}
-use Rattle.dtman_engine.specs.Overlay.{CannotApply, HasLongResult, IsBlobOfApplied, TellsOver}
+use Rattle.dtman_engine.specs.Overlay.{Applies, CannotApply, HasLongResult, IsBlobOfApplied, IsOverlaid, IsOverlayRefusal, IsToldOver}
 use Rattle.dtman_engine.proofs.ValueSizes.{values-fit}
 
 -- a result whose values are too long has a blob that is too long
@@ -44,25 +45,6 @@ unread {T} blob e large why =
     let refused : BlobError → Result T BlobError = λ x. Err x in
     record { error = e; told = refl; explained = why; size = λ is. large.0 (ap refused is) }
 
--- a fault that tells the reader's error has what that has
-module _ {V : Type 0} (e : BlobError) (Bad : FaultValue → Type 0) where
-  pub told : (r : Result V Fault) → Tells r (blob_fault e) → Bad (blob_fault e) → IfErr r (λ fault. Bad (fault_value fault))
-  told (Ok v) is bad = tt
-  told (Err fault) is bad = subst Bad (sym is) bad
-
-  pub matched : (Good : V → Type 0) (r : Result V Fault) → Tells r (blob_fault e) → Bad (blob_fault e) → MatchResult r Good (λ fault. Bad (fault_value fault))
-  matched Good (Ok v) is bad = elim is [ ]
-  matched Good (Err fault) is bad = subst Bad (sym is) bad
-
--- want of memory for the base comes before the overlay's error, which is told else
-pub before-over : {V : Type 0} (x e : BlobError) (r : Result V Fault) → x ≡ NoMemory → Tells r (blob_fault x) → IsErrAnd r (λ fault. TellsOver e (fault_value fault))
-before-over x e (Ok v) none is = elim is [ ]
-before-over x e (Err fault) none is = inl (is ∙ ap blob_fault none)
-
-pub told-over : {V : Type 0} (e : BlobError) (r : Result V Fault) → Tells r (blob_fault e) → IsErrAnd r (λ fault. TellsOver e (fault_value fault))
-told-over e (Ok v) is = elim is [ ]
-told-over e (Err fault) is = inr is
-
 -- the trees that were read are those that the bytes hold
 pub of-held : {V : Type 0} (bytes : V → List ℕ) (r : Result V Fault) (b c o p : TreeData) → b ≡ c → o ≡ p
     → MatchResult r (λ blob. IsBlobOfApplied b o (bytes blob)) (λ fault. CannotApply b o (fault_value fault))
@@ -70,3 +52,26 @@ pub of-held : {V : Type 0} (bytes : V → List ℕ) (r : Result V Fault) (b c o 
 of-held bytes r b c o p same also h =
     subst (λ (x : TreeData). MatchResult r (λ blob. IsBlobOfApplied c x (bytes blob)) (λ fault. CannotApply c x (fault_value fault))) also
     (subst (λ (x : TreeData). MatchResult r (λ blob. IsBlobOfApplied x o (bytes blob)) (λ fault. CannotApply x o (fault_value fault))) same h)
+
+-- what is made of two trees that the bytes hold
+pub overlaid : (base over : List ℕ) (b o : TreeData) (r : Answer) → Holds base b → Holds over o → Applies b o r
+    → IfOk r (λ blob. IsOverlaid base over blob.items)
+overlaid base over b o (Ok blob) base_held over_held made =
+    record { base_tree = b; base_held = base_held; over_tree = o; over_held = over_held; blob_is = made }
+overlaid base over b o (Err fault) base_held over_held made = tt
+
+-- and why nothing is
+pub in-vain : (base over : List ℕ) (b o : TreeData) (r : Answer) → Holds base b → Holds over o → Applies b o r
+    → IfErr r (λ fault. IsOverlayRefusal base over (fault_value fault))
+in-vain base over b o (Ok blob) base_held over_held made = tt
+in-vain base over b o (Err fault) base_held over_held made =
+    inr (inr (record { base_tree = b; base_held = base_held; over_tree = o; over_held = over_held; cannot = made }))
+
+-- a fault that is handed on: want of memory, and that of the overlay's header
+pub unread-over : (b o : TreeData) (r : Answer) (e : Fault) → IsErrAnd r (λ x. x ≡ e) → fault_value e ≡ no_memory → Applies b o r
+unread-over b o (Ok blob) e handed is = elim handed [ ]
+unread-over b o (Err x) e handed is = inl (ap fault_value handed ∙ is)
+
+pub header-over : (kind : BlobError) (r : Answer) (e : Fault) → IsErrAnd r (λ x. x ≡ e) → fault_value e ≡ blob_fault kind → IsToldOver kind r
+header-over kind (Ok blob) e handed is = elim handed [ ]
+header-over kind (Err x) e handed is = inr (ap fault_value handed ∙ is)

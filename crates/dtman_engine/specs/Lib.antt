@@ -3,6 +3,7 @@ pub mod Canonical
 pub mod Compile
 pub mod CompileDtc
 pub mod Copy
+pub mod Culprit
 pub mod Dump
 pub mod EventFaults
 pub mod Explain

@@ -5,6 +5,7 @@ ghost use Rattle.dt_source.specs.Parse.{Says};
 ghost use Rattle.dt_source.specs.Meaning.{meaning_of};
 ghost use Rattle.dt_source.specs.TreeMeaning.Syntax.{Meaning};
 ghost use Rattle.dtman_engine.specs.Compile.{Builds, IsCompileRefusal, IsCompiled};
+ghost use Rattle.dtman_engine.specs.Culprit.{IsOfNoBlob};
 ghost use Rattle.dtman_engine.specs.Fault.{fault_value};
 ghost use Rattle.dtman_engine.specs.Limits.{IsShort};
 ghost use Rattle.dtman_engine.specs.Private.Writing.{Writes};
@@ -65,7 +66,8 @@ fn source_blob(
 
 /// The blob of a tree.
 pub(crate) fn tree_blob(alloc: Global, hasher: RandomState, tree: &Tree) -> Result<Vec<u8>, Fault>
-    ensures { Writes tree.now result }
+    ensures made { Writes tree.now result }
+    ensures word { IfErr result (λ fault. IsOfNoBlob fault.culprit) }
 {
     match write(alloc, hasher, tree) {
         Ok(blob) => Ok(blob),

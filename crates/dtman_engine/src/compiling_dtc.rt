@@ -60,7 +60,8 @@ pub fn compile_dtc(
     // The tree is the one whose blob it is.
     ensures tree { IfOk result (λ made. made.blob.items ≡ blob_of made.tree) }
     // What a text says is answered, or why it makes no blob: a file that is lacking is told, too.
-    ensures said { (m : Meaning) → IsShort source.now → Says Dtc source.now m → AnswersFilled options source.now (filled binaries.items m) result }
+    ensures said { (m : Meaning) → IsShort source.now → Says Dtc source.now m
+        → AnswersFilled options source.now (filled binaries.items m) result }
     // Each refusal has its reason in the text or in the files.
     ensures refused { IfErr result (λ fault. IsDtcRefusal options source.now binaries.items (fault_value fault)) }
 {

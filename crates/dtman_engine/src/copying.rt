@@ -4,13 +4,16 @@ ghost use Rattle.dt_tree.specs.TreeData.{TreeData};
 ghost use Rattle.dt_blob.specs.declared.error.BlobError.{BlobError};
 ghost use Rattle.dt_blob.specs.HeaderWords.{header_fault};
 ghost use Rattle.dt_blob.specs.Holds.{Holds};
+ghost use Rattle.dtman_engine.specs.declared.culprit.BlobRole.TheVariants.{Sole};
+ghost use Rattle.dtman_engine.specs.Culprit.{Places};
 ghost use Rattle.dtman_engine.specs.BlobFaults.{blob_fault};
 ghost use Rattle.dtman_engine.specs.Copy.{CopiesTree, IsCopy, IsCopyRefusal};
 ghost use Rattle.dtman_engine.specs.Fault.{Tells, fault_value};
 
 use crate::compiling::tree_blob;
+use crate::culprit::BlobRole;
 use crate::fault::Fault;
-use dt_blob::read;
+use crate::reading::tree_of;
 use std::alloc::Global;
 use std::hash::RandomState;
 
@@ -25,7 +28,9 @@ pub fn copy_bytes(alloc: Global, hasher: RandomState, blob: &[u8]) -> Result<Vec
     ensures refused { IfErr result (λ fault. IsCopyRefusal blob.now (fault_value fault)) }
     // A fault of the header comes before all else.
     ensures header { (e : BlobError) → header_fault blob.now ≡ Some e → Tells result (blob_fault e) }
+    // The word of the bytes at which they are refused is told.
+    ensures word { IfErr result (Places Sole blob.now) }
 {
-    let tree = read(alloc, blob)?;
+    let tree = tree_of(alloc, BlobRole::Sole, blob)?;
     tree_blob(alloc, hasher, &tree)
 }

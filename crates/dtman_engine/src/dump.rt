@@ -4,12 +4,16 @@ ghost use Rattle.dt_tree.specs.TreeData.{TreeData};
 ghost use Rattle.dt_blob.specs.declared.error.BlobError.TheVariants.{Truncated, BadMagic, BadVersion, BadLayout, TooLarge};
 ghost use Rattle.dt_blob.specs.HeaderWords.{header_fault};
 ghost use Rattle.dt_blob.specs.Holds.{Holds};
+ghost use Rattle.dtman_engine.specs.declared.culprit.BlobRole.TheVariants.{Sole};
+ghost use Rattle.dtman_engine.specs.Culprit.{Places};
 ghost use Rattle.dtman_engine.specs.Dump.{IsDump, IsRefusal, PrintsTree, TooLong};
 ghost use Rattle.dtman_engine.specs.Fault.{Tells, fault_value};
 ghost use Rattle.dtman_engine.specs.BlobFaults.{blob_fault};
 
+use crate::culprit::BlobRole;
 use crate::fault::Fault;
-use dt_blob::{read, source_text};
+use crate::reading::tree_of;
+use dt_blob::source_text;
 use std::alloc::Global;
 
 /// The canonical source of the tree that a blob holds.
@@ -29,8 +33,12 @@ pub fn dump_bytes(alloc: Global, blob: &[u8]) -> Result<Vec<u8>, Fault>
     // Too many bytes come in, or would go out.
     ensures too_large { header_fault blob.now ≡ Some TooLarge → Tells result (blob_fault TooLarge) }
     ensures too_long { IfErr result (λ fault. fault_value fault ≡ blob_fault TooLarge → TooLong blob.now) }
+    // The word of the bytes at which they are refused is told.
+    ensures word { IfErr result (Places Sole blob.now) }
 {
-    let tree = read(alloc, blob)?;
-    let text = source_text(alloc, &tree)?;
-    Ok(text)
+    let tree = tree_of(alloc, BlobRole::Sole, blob)?;
+    match source_text(alloc, &tree) {
+        Ok(text) => Ok(text),
+        Err(error) => Err(Fault::from(error)),
+    }
 }

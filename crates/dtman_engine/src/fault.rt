@@ -1,5 +1,8 @@
 //! A refusal as the program prints it.
-ghost use Rattle.std.specs.Prelude.{◌≡◌};
+ghost use Rattle.std.specs.Prelude.{◌≡◌, None, Some};
+ghost use Rattle.dtman_engine.specs.Culprit.{IsOfNoBlob, word_of};
+ghost use Rattle.dtman_engine.specs.declared.culprit.BlobRole.TheVariants.{Sole};
+ghost use Rattle.dtman_engine.specs.declared.culprit.Culprit.TheVariants.{Overlay};
 ghost use Rattle.dtman_engine.specs.Fault.{fault_value, no_memory, cannot_read, cannot_write, file_too_long};
 ghost use Rattle.dtman_engine.specs.SourceFaults.{build_fault, build_position, source_fault};
 ghost use Rattle.dtman_engine.specs.BlobFaults.{blob_fault};
@@ -8,6 +11,7 @@ ghost use Rattle.dtman_engine.specs.TextFaults.{text_fault};
 ghost use Rattle.dtman_engine.specs.EventFaults.{event_fault};
 ghost use Rattle.dtman_engine.specs.RunFaults.{run_fault};
 
+use crate::culprit::{BlobRole, Culprit};
 use bus_core::Refusal;
 use bus_drivers::PlanFault;
 use bus_manager::RunError;
@@ -31,24 +35,6 @@ pub enum Position {
     Within(Place),
     /// An event of a schedule, from 1.
     Event(usize),
-}
-
-/// What a refusal is of, where its line and its event don't say it.
-#[derive(Clone, Copy, Debug)]
-pub enum Culprit {
-    /// The property of a tree that 54 and 55 are of.
-    Property(bus_drivers::Culprit),
-    /// The place in an overlay that 40 to 46 are of.
-    Overlay(OverlayError),
-}
-
-impl Culprit {
-    fn of_property(property: Option<bus_drivers::Culprit>) -> Option<Culprit> {
-        match property {
-            Some(property) => Some(Culprit::Property(property)),
-            None => None,
-        }
-    }
 }
 
 /// The number, name and position of a refusal. Numbers and names are those of the crate that refused.
@@ -86,7 +72,8 @@ impl Fault {
 
     /// A growth was refused.
     pub fn no_memory() -> Fault
-        ensures { fault_value result ≡ no_memory }
+        ensures told { fault_value result ≡ no_memory }
+        ensures nothing { result.culprit ≡ None }
     {
         Fault {
             number: 0,
@@ -109,6 +96,17 @@ impl Fault {
                 at => Position::Within(place_at(text, at)),
             },
             culprit: None,
+        }
+    }
+
+    /// The bytes of the blob in this role are refused.
+    pub fn of_blob(role: BlobRole, refused: ReadError) -> Fault
+        ensures told { fault_value result ≡ blob_fault refused.kind }
+        ensures word { result.culprit ≡ word_of refused.kind (record { role = role; refused = refused }) }
+    {
+        Fault {
+            culprit: Culprit::of_blob(role, refused),
+            ..Fault::from(refused.kind)
         }
     }
 
@@ -150,7 +148,7 @@ impl Fault {
 }
 
 impl From<AllocError> for Fault {
-    ghost from_gives = { λ _ fault. fault_value fault ≡ no_memory };
+    ghost from_gives = { λ _ fault. (fault_value fault ≡ no_memory) × (fault.culprit ≡ None) };
 
     fn from(_error: AllocError) -> Fault {
         Fault::no_memory()
@@ -174,7 +172,7 @@ impl From<PlanError> for Fault {
 }
 
 impl From<PlanFault> for Fault {
-    ghost from_gives = { λ refused fault. fault_value fault ≡ text_fault refused };
+    ghost from_gives = { λ refused fault. (fault_value fault ≡ text_fault refused) × IsOfNoBlob fault.culprit };
 
     fn from(refused: PlanFault) -> Fault {
         Fault {
@@ -202,7 +200,7 @@ impl From<SourceError> for Fault {
 }
 
 impl From<OverlayError> for Fault {
-    ghost from_gives = { λ error fault. fault_value fault ≡ overlay_fault error };
+    ghost from_gives = { λ error fault. (fault_value fault ≡ overlay_fault error) × (fault.culprit ≡ Some (Overlay error)) };
 
     fn from(error: OverlayError) -> Fault {
         Fault {
@@ -215,7 +213,7 @@ impl From<OverlayError> for Fault {
 }
 
 impl From<BlobError> for Fault {
-    ghost from_gives = { λ error fault. fault_value fault ≡ blob_fault error };
+    ghost from_gives = { λ error fault. (fault_value fault ≡ blob_fault error) × (fault.culprit ≡ None) };
 
     fn from(error: BlobError) -> Fault {
         Fault {
@@ -227,17 +225,18 @@ impl From<BlobError> for Fault {
     }
 }
 
-/// What the bytes refuse of a blob.
+/// What the bytes refuse of the only blob.
 impl From<ReadError> for Fault {
-    ghost from_gives = { λ refused fault. fault_value fault ≡ blob_fault refused.kind };
+    ghost from_gives = { λ refused fault. (fault_value fault ≡ blob_fault refused.kind)
+        × (fault.culprit ≡ word_of refused.kind (record { role = Sole; refused = refused })) };
 
     fn from(refused: ReadError) -> Fault {
-        Fault::from(refused.kind)
+        Fault::of_blob(BlobRole::Sole, refused)
     }
 }
 
 impl From<RunError> for Fault {
-    ghost from_gives = { λ error fault. fault_value fault ≡ run_fault error };
+    ghost from_gives = { λ error fault. (fault_value fault ≡ run_fault error) × (fault.culprit ≡ None) };
 
     fn from(error: RunError) -> Fault {
         Fault {

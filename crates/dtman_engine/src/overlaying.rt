@@ -5,13 +5,16 @@ ghost use Rattle.dt_blob.specs.declared.error.BlobError.{BlobError};
 ghost use Rattle.dt_blob.specs.HeaderWords.{header_fault};
 ghost use Rattle.dt_blob.specs.Holds.{Holds};
 ghost use Rattle.dtman_engine.specs.Fault.{Tells, fault_value};
+ghost use Rattle.dtman_engine.specs.Culprit.{IsOfNoBlob, PlacesOver};
 ghost use Rattle.dtman_engine.specs.BlobFaults.{blob_fault};
 ghost use Rattle.dtman_engine.specs.Overlay.{Applies, IsBadOver, IsOverlaid, IsOverlayRefusal, IsToldOver};
 
 use crate::compiling::tree_blob;
+use crate::culprit::BlobRole;
 use crate::fault::Fault;
 use crate::limits::MAX_BLOB_LEN;
-use dt_blob::{BlobError, read};
+use crate::reading::tree_of;
+use dt_blob::BlobError;
 use dt_overlay::apply_within;
 use dt_tree::Tree;
 use std::alloc::Global;
@@ -37,9 +40,11 @@ pub fn overlay_bytes(
     ensures header { (e : BlobError) → header_fault base.now ≡ Some e → Tells result (blob_fault e) }
     // Behind a base that is held, one of the overlay's header comes, unless memory runs out for the base.
     ensures overlay_header { (e : BlobError) → IsBadOver base.now overlay.now e → IsToldOver e result }
+    // The word is told at which the base is refused or, where that is held, the overlay.
+    ensures word { IfErr result (PlacesOver base.now overlay.now) }
 {
-    let base = read(alloc, base)?;
-    let overlay = read(alloc, overlay)?;
+    let base = tree_of(alloc, BlobRole::Base, base)?;
+    let overlay = tree_of(alloc, BlobRole::Applied, overlay)?;
     applied_blob(alloc, hasher, &base, &overlay)
 }
 
@@ -49,7 +54,8 @@ fn applied_blob(
     base: &Tree,
     overlay: &Tree,
 ) -> Result<Vec<u8>, Fault>
-    ensures { Applies base.now overlay.now result }
+    ensures applied { Applies base.now overlay.now result }
+    ensures word { IfErr result (λ fault. IsOfNoBlob fault.culprit) }
 {
     match apply_within(alloc, hasher, base, overlay, MAX_BLOB_LEN) {
         Err(error) => Err(Fault::from(error)),

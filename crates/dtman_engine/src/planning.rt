@@ -6,15 +6,18 @@ ghost use Rattle.dt_blob.specs.HeaderWords.{header_fault};
 ghost use Rattle.dt_blob.specs.Holds.{Holds};
 ghost use Rattle.bus_plan.specs.PlanFile.{Answers};
 ghost use Rattle.bus_plan.specs.PlanText.{text_of};
+ghost use Rattle.dtman_engine.specs.declared.culprit.BlobRole.TheVariants.{Sole};
+ghost use Rattle.dtman_engine.specs.Culprit.{IsOfNoBlob, Places};
 ghost use Rattle.dtman_engine.specs.Fault.{Tells, fault_value};
 ghost use Rattle.dtman_engine.specs.BlobFaults.{blob_fault};
 ghost use Rattle.dtman_engine.specs.Plan.{planning, IsPlanned, IsPlanText, IsPlanRefusal, Plans, PrintsPlan};
 ghost use Rattle.dtman_engine.specs.Private.Printing.{Prints};
 
+use crate::culprit::BlobRole;
 use crate::fault::Fault;
+use crate::reading::tree_of;
 use bus_drivers::{PlanFault, plan, read_drivers};
 use bus_plan::{Plan, plan_text};
-use dt_blob::read;
 use dt_tree::Tree;
 use std::alloc::Global;
 use std::hash::RandomState;
@@ -32,9 +35,14 @@ pub fn planned(
     ensures held { (tree : TreeData) → Holds blob.now tree → Plans tree drivers.now result }
     ensures refused { IfErr result (λ fault. IsPlanRefusal blob.now drivers.now (fault_value fault)) }
     ensures header { (e : BlobError) → header_fault blob.now ≡ Some e → Tells result (blob_fault e) }
+    // The word of the bytes at which they are refused is told.
+    ensures word { IfErr result (Places Sole blob.now) }
 {
-    let tree = read(alloc, blob)?;
-    Ok(plan_tree(alloc, hasher, &tree, drivers)?)
+    let tree = tree_of(alloc, BlobRole::Sole, blob)?;
+    match plan_tree(alloc, hasher, &tree, drivers) {
+        Ok(plan) => Ok(plan),
+        Err(refused) => Err(Fault::from(refused)),
+    }
 }
 
 fn plan_tree(
@@ -64,13 +72,19 @@ pub fn plan_bytes(
     ensures refused { IfErr result (λ fault. IsPlanRefusal blob.now drivers.now (fault_value fault)) }
     // A fault of the header comes before all else.
     ensures header { (e : BlobError) → header_fault blob.now ≡ Some e → Tells result (blob_fault e) }
+    // The word of the bytes at which they are refused is told.
+    ensures word { IfErr result (Places Sole blob.now) }
 {
     let plan = planned(alloc, hasher, blob, drivers)?;
     text_of(alloc, &plan)
 }
 
 fn text_of(alloc: Global, plan: &Plan) -> Result<Vec<u8>, Fault>
-    ensures { Prints (text_of plan.now) result }
+    ensures made { Prints (text_of plan.now) result }
+    ensures word { IfErr result (λ fault. IsOfNoBlob fault.culprit) }
 {
-    plan_text(alloc, plan).map_err(|_| Fault::no_memory())
+    match plan_text(alloc, plan) {
+        Ok(text) => Ok(text),
+        Err(_) => Err(Fault::no_memory()),
+    }
 }

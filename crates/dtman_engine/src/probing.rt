@@ -4,6 +4,8 @@ ghost use Rattle.dt_tree.specs.TreeData.{TreeData};
 ghost use Rattle.dt_blob.specs.declared.error.BlobError.{BlobError};
 ghost use Rattle.dt_blob.specs.HeaderWords.{header_fault};
 ghost use Rattle.dt_blob.specs.Holds.{Holds};
+ghost use Rattle.dtman_engine.specs.declared.culprit.BlobRole.TheVariants.{Sole};
+ghost use Rattle.dtman_engine.specs.Culprit.{Places, IsOfNoBlob};
 ghost use Rattle.dtman_engine.specs.Fault.{Tells, fault_value};
 ghost use Rattle.dtman_engine.specs.BlobFaults.{blob_fault};
 ghost use Rattle.dtman_engine.specs.Probe.{IsProbe, IsProbeRefusal, Probes};
@@ -40,6 +42,8 @@ pub fn probe_bytes<P: Prober, R: Threads + Sync>(
     ensures refused { IfErr result (λ fault. IsProbeRefusal blob.now drivers.now workers (fault_value fault)) }
     // A fault of the header comes before all else.
     ensures header { (e : BlobError) → header_fault blob.now ≡ Some e → Tells result (blob_fault e) }
+    // The word of the bytes at which they are refused is told.
+    ensures word { IfErr result (Places Sole blob.now) }
 {
     let plan = planned(alloc, hasher, blob, drivers)?;
     plan_run(rt, alloc, &plan, prober, workers)
@@ -54,6 +58,7 @@ fn plan_run<P: Prober, R: Threads + Sync>(
 ) -> Result<Ran<P::Note>, Fault>
     ensures run { Runs (P.attests prober.now plan.now) plan.now workers result }
     ensures many { IfOk result (λ _. ¬ (AreTooMany workers)) }
+    ensures word { IfErr result (λ fault. IsOfNoBlob fault.culprit) }
 {
     match run(rt, alloc, plan, prober, workers) {
         Ok(ran) => Ok(ran),

@@ -4,11 +4,23 @@
 
 use crate::engine::compiling::compiled;
 use crate::engine::overlaying::{BASE, deep_overlay};
-use dtman_diagnosis::{diagnose_overlay, example_of, text_of};
-use dtman_engine::{Culprit, overlay_bytes};
+use dtman_diagnosis::{OverlayCulprit, diagnose_overlay, example_of, text_of};
+use dtman_engine::{BlobRole, Culprit, Fault, Unread, overlay_bytes};
 use std::alloc::Global;
 use std::hash::RandomState;
 use std::process::Abort;
+
+/// What the refusal of an overlay is of.
+fn culprit_of(fault: Fault) -> Option<OverlayCulprit> {
+    match fault.culprit {
+        Some(Culprit::Overlay(error)) => Some(OverlayCulprit::Place(error)),
+        Some(Culprit::Blob(Unread { role, refused })) => Some(match role {
+            BlobRole::Applied => OverlayCulprit::Applied(refused),
+            BlobRole::Sole | BlobRole::Base => OverlayCulprit::Base(refused),
+        }),
+        Some(Culprit::Property(_)) | None => None,
+    }
+}
 
 /// The lines of a refusal of an overlay by this number, both as blobs in these files.
 fn lines_of(
@@ -26,10 +38,6 @@ fn lines_of(
         panic!(rt; "a refusal");
     };
     assert_eq!(rt; fault.number, number);
-    let error = match fault.culprit {
-        Some(Culprit::Overlay(error)) => Some(error),
-        _ => None,
-    };
     let diagnosis = diagnose_overlay(
         alloc,
         base_file.as_bytes(),
@@ -37,7 +45,7 @@ fn lines_of(
         overlay_file.as_bytes(),
         overlay,
         number,
-        error,
+        culprit_of(fault),
     )
     .expect(rt, "a diagnosis");
     text_of(alloc, first, &diagnosis).expect(rt, "a text")

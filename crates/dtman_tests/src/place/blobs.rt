@@ -1,7 +1,7 @@
 //! Refusals of blobs: the word that they are of, and what was wanted there.
 
-use super::shown::shows;
-use dtman_diagnosis::{diagnose_blob, example_of};
+use super::shown::{diagnosed_blob, shows};
+use dtman_diagnosis::example_of;
 use std::alloc::Global;
 use std::process::Abort;
 
@@ -219,7 +219,7 @@ const STRUCTURES: &[Row] = &[
 fn row_shows<R: Abort + AllocGlobal>(rt: &R, row: &Row) {
     let (offset, word, len, number, lines) = row;
     let blob = changed(rt, rt.alloc(), *offset, *word, *len);
-    let diagnosis = diagnose_blob(rt.alloc(), b"b.dtb".as_slice(), blob.as_slice(), *number);
+    let diagnosis = diagnosed_blob(rt.alloc(), b"b.dtb".as_slice(), blob.as_slice(), *number);
     shows(rt, rt.alloc(), diagnosis, *lines);
 }
 
@@ -347,7 +347,7 @@ const NESTED: &[NestedRow] = &[
 fn nested_shows<R: Abort + AllocGlobal>(rt: &R, row: &NestedRow) {
     let (words, number, lines) = row;
     let blob = blob(rt, rt.alloc(), *words, b"".as_slice());
-    let diagnosis = diagnose_blob(rt.alloc(), b"b.dtb".as_slice(), blob.as_slice(), *number);
+    let diagnosis = diagnosed_blob(rt.alloc(), b"b.dtb".as_slice(), blob.as_slice(), *number);
     shows(rt, rt.alloc(), diagnosis, *lines);
 }
 
@@ -435,7 +435,7 @@ const EXAMPLES: &[(u8, &[u32], &[u8])] = &[
 fn example_shows<R: Abort + AllocGlobal>(rt: &R, row: &(u8, &[u32], &[u8])) {
     let (number, words, behind) = row;
     let blob = blob(rt, rt.alloc(), *words, *behind);
-    let diagnosis = diagnose_blob(rt.alloc(), b"IN".as_slice(), blob.as_slice(), *number);
+    let diagnosis = diagnosed_blob(rt.alloc(), b"IN".as_slice(), blob.as_slice(), *number);
     let lines = example_of(*number).expect(rt, "an example");
     shows(rt, rt.alloc(), diagnosis, lines);
 }
@@ -452,7 +452,7 @@ fn examples(rt: HostRuntime) {
 fn too_long(rt: HostRuntime) {
     let file = b"IN".as_slice();
     let blob = blob(&rt, rt.alloc(), WORDS, b"a\0");
-    let diagnosis = diagnose_blob(rt.alloc(), file, blob.as_slice(), 38);
+    let diagnosis = diagnosed_blob(rt.alloc(), file, blob.as_slice(), 38);
     let lines =
         "error 38 TooLarge\nIN: a blob or a text has at most 268,435,456 bytes\n = its text would have more\n";
     shows(&rt, rt.alloc(), diagnosis, lines);

@@ -1,8 +1,9 @@
 //! Refusals as objects of JSON (RFC 8259, section 7: which characters a string escapes).
 
 use crate::place::refused::{Compiled, refused_by};
+use crate::place::shown::diagnosed_blob;
 use dt_text::lexeme::Language;
-use dtman_diagnosis::{Diagnosis, diagnose_blob, diagnose_source, json_of};
+use dtman_diagnosis::{Diagnosis, diagnose_source, json_of};
 use std::alloc::AllocError;
 use std::process::Abort;
 use std::random::RandomSource;
@@ -82,7 +83,7 @@ fn sources(rt: HostRuntime) {
 /// A file's name that is no text.
 #[test]
 fn blobs(rt: HostRuntime) {
-    let diagnosis = diagnose_blob(rt.alloc(), b"b\xff\x01.dtb".as_slice(), b"", 30);
+    let diagnosis = diagnosed_blob(rt.alloc(), b"b\xff\x01.dtb".as_slice(), b"", 30);
     let object =
         "{\"file\":\"b\\\\xff\\\\x01.dtb\",\"offset\":0,\"severity\":\"error\",\"number\":30,\"name\":\"Truncated\",\"message\":\"the blob is cut\",\"notes\":[\"wanted is a header of 40 bytes\",\"the file is empty\"]}\n";
     is_object(&rt, "Truncated", None, diagnosis, object);

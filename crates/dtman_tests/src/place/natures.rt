@@ -1,7 +1,6 @@
 //! What a file is that is no blob: the bytes with which formats begin are those of their own documents.
 
-use super::shown::shows;
-use dtman_diagnosis::diagnose_blob;
+use super::shown::{diagnosed_blob, shows};
 use std::process::Abort;
 
 /// The bytes of a file, the number by which it is refused, and what is told of it.
@@ -62,7 +61,7 @@ const ROWS: &[Row] = &[
 ];
 
 fn row_shows<R: Abort + AllocGlobal>(rt: &R, row: &Row) {
-    let diagnosis = diagnose_blob(rt.alloc(), b"b.dtb".as_slice(), row.bytes, row.number);
+    let diagnosis = diagnosed_blob(rt.alloc(), b"b.dtb".as_slice(), row.bytes, row.number);
     shows(rt, rt.alloc(), diagnosis, row.lines);
 }
 

@@ -18,7 +18,7 @@ pub returns-in-Ok-None-clause-answer : goal.returns-in-Ok-None-clause-answer
 returns-in-Ok-None-clause-answer c =
     let symbols = c.args.options.symbols in
     let m = meaning_of c.args.source.now in
-    inr (inr (c.from.ensures, long-dtc c.args.options m (subst (λ (built : Option Built). IsDtcBuilt symbols m blob_limit (option_map (λ b. b.tree) built)) c.in-Ok-None.field-0-is c.in-Ok-None.ensures.tree)))
+    inr (inr (c.from.ensures.0, long-dtc c.args.options m (subst (λ (built : Option Built). IsDtcBuilt symbols m blob_limit (option_map (λ b. b.tree) built)) c.in-Ok-None.field-0-is c.in-Ok-None.ensures.tree)))
 
 pub returns-in-Ok-clause-answer : goal.returns-in-Ok-clause-answer
 returns-in-Ok-clause-answer c =
@@ -27,10 +27,10 @@ returns-in-Ok-clause-answer c =
     let made = c.booted-tree.result in
     let within = subst (λ (built : Option Built). IsDtcBuilt options.symbols m blob_limit (option_map (λ b. b.tree) built)) c.in-Ok-Some.field-0-is c.in-Ok-Some.ensures.tree in
     let means = tree-meant options m c.in-Ok-Some.field-0-0.tree made within.tree c.booted-tree.ensures in
-    record { tree = made; is = c.check.ensures; means = means; blob_is = c.in-Ok.ensures.0; fits = c.in-Ok.ensures.1 }
+    record { tree = made; is = c.check.ensures; means = means; blob_is = c.in-Ok.ensures.made.0; fits = c.in-Ok.ensures.made.1 }
 
 pub returns-in-Ok-clause-tree : goal.returns-in-Ok-clause-tree
-returns-in-Ok-clause-tree c = c.in-Ok.ensures.0
+returns-in-Ok-clause-tree c = c.in-Ok.ensures.made.0
 
 pub returns-in-Err-tree_blob-clause-answer : goal.returns-in-Err-tree_blob-clause-answer
 returns-in-Err-tree_blob-clause-answer c =
@@ -39,4 +39,4 @@ returns-in-Err-tree_blob-clause-answer c =
     let made = c.booted-tree.result in
     let within = subst (λ (built : Option Built). IsDtcBuilt options.symbols m blob_limit (option_map (λ b. b.tree) built)) c.in-Ok-Some.field-0-is c.in-Ok-Some.ensures.tree in
     let means = tree-meant options m c.in-Ok-Some.field-0-0.tree made within.tree c.booted-tree.ensures in
-    unbuilt (dtc_meant options m) made (fault_value c.in-Err-tree_blob.fault) c.check.ensures means c.in-Err-tree_blob.ensures
+    unbuilt (dtc_meant options m) made (fault_value c.in-Err-tree_blob.fault) c.check.ensures means c.in-Err-tree_blob.ensures.made

@@ -1,48 +1,23 @@
--- The reader's error is told, and explained by what the reader promises of it; a tree that is held is the one that was read.
-use Rattle.std.proofs.Common.{◌≡◌, ◌≤◌, length, inl, ap, Ok, Err, subst}
+-- A tree that is held is the one that was read.
+use Rattle.std.proofs.Common.{subst}
 use Rattle.dt_tree.specs.TreeData.{TreeData}
-use Rattle.dtman_engine.specs.BlobFaults.{blob_fault}
-use Rattle.dtman_engine.specs.Copy.{CannotCopy, CopiesTree, IsCopyRefusal}
-use Rattle.dt_blob.specs.Blob.{blob_of}
-use Rattle.dtman_engine.specs.Limits.{blob_limit}
+use Rattle.dtman_engine.specs.Copy.{CopiesTree}
+use Rattle.dtman_engine.specs.declared.culprit.BlobRole.TheVariants.{Sole}
 use Rattle.dtman_engine.proofs.CopyLemmas.{copied, uncopied}
-use Rattle.dtman_engine.proofs.DumpLemmas.{explained}
-use Rattle.dtman_engine.proofs.HeaderLemmas.{header-error, header-told, no-error}
-use Rattle.dtman_engine.proofs.OverlayLemmas.{matched, told, unread}
+use Rattle.dtman_engine.proofs.CulpritLemmas.{held-word}
 use Rattle.dtman_engine.proofs.copying.copy_bytes.Goals as goal
 
 pub returns-clause-answer : goal.returns-clause-answer
-returns-clause-answer c = copied (λ blob. blob.items) c.args.blob.now c.in_ok-tree.tree c.in_ok-tree.ensures.found c.tree_blob.result c.tree_blob.ensures
+returns-clause-answer c = copied (λ blob. blob.items) c.args.blob.now c.in_ok-tree.tree c.in_ok-tree.ensures.found c.tree_blob.result c.tree_blob.ensures.made
 
 pub returns-clause-held : goal.returns-clause-held
-returns-clause-held c = λ t held. subst (λ (x : TreeData). CopiesTree x c.tree_blob.result) (c.in_ok-tree.ensures.only t held) c.tree_blob.ensures
+returns-clause-held c = λ t held. subst (λ (x : TreeData). CopiesTree x c.tree_blob.result) (c.in_ok-tree.ensures.only t held) c.tree_blob.ensures.made
 
 pub returns-clause-refused : goal.returns-clause-refused
-returns-clause-refused c = uncopied (λ blob. blob.items) c.args.blob.now c.in_ok-tree.tree c.in_ok-tree.ensures.found c.tree_blob.result c.tree_blob.ensures
+returns-clause-refused c = uncopied (λ blob. blob.items) c.args.blob.now c.in_ok-tree.tree c.in_ok-tree.ensures.found c.tree_blob.result c.tree_blob.ensures.made
 
 pub returns-clause-header : goal.returns-clause-header
-returns-clause-header c =
-    let r = c.in_ok-tree.ensures in
-    λ e is. elim (no-error c.in_ok-tree.tree e (header-error c.args.blob.now (Ok c.in_ok-tree.tree) r.too_large r.truncated r.bad_magic r.bad_version r.bad_layout e is)) [ ]
+returns-clause-header c = λ e is. elim (c.in_ok-tree.ensures.header e is) [ ]
 
-pub returns-in_err-tree-clause-held : goal.returns-in_err-tree-clause-held
-returns-in_err-tree-clause-held c =
-    λ t held.
-    matched c.in_err-tree.field-0.0.kind (CannotCopy t) (λ copy. (copy.items ≡ blob_of t) × (length copy.items ≤ blob_limit)) c.from_residual.result c.from_residual.ensures.1
-    (inl (ap blob_fault (c.in_err-tree.ensures.only t held)))
-
-pub returns-in_err-tree-clause-refused : goal.returns-in_err-tree-clause-refused
-returns-in_err-tree-clause-refused c =
-    let blob = c.args.blob.now in
-    let e = c.in_err-tree.field-0.0.kind in
-    let of_read = c.in_err-tree.ensures in
-    told e (IsCopyRefusal blob) c.from_residual.result c.from_residual.ensures.1
-    (inl (unread blob e of_read.too_large (explained blob e of_read.only of_read.too_large of_read.truncated of_read.bad_magic of_read.bad_version of_read.no_end)))
-
-pub returns-in_err-tree-clause-header : goal.returns-in_err-tree-clause-header
-returns-in_err-tree-clause-header c =
-    let r = c.in_err-tree.ensures in
-    λ e is.
-    header-told c.in_err-tree.field-0.0.kind e c.from_residual.result
-    (header-error c.args.blob.now (Err c.in_err-tree.field-0.0.kind) r.too_large r.truncated r.bad_magic r.bad_version r.bad_layout e is)
-    c.from_residual.ensures.1
+pub returns-clause-word : goal.returns-clause-word
+returns-clause-word c = held-word Sole c.args.blob.now c.in_ok-tree.tree c.tree_blob.result c.in_ok-tree.ensures.found c.tree_blob.ensures.word

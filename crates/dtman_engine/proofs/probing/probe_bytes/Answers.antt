@@ -7,6 +7,8 @@ use Rattle.dtman_engine.specs.Fault.{fault_value}
 use Rattle.dtman_engine.specs.Plan.{planning, IsPlanned}
 use Rattle.dtman_engine.specs.Probe.{CannotProbe, IsProbeRefusal}
 use Rattle.dtman_engine.specs.RunFaults.{CannotRun}
+use Rattle.dtman_engine.specs.declared.culprit.BlobRole.TheVariants.{Sole}
+use Rattle.dtman_engine.proofs.CulpritLemmas.{held-word}
 use Rattle.dtman_engine.proofs.probing.probe_bytes.Goals as goal
 
 unrun : {V : Type 0} (blob drivers : List ℕ) (workers : ℕ) (plan : List PlannedDevice) (Good : V → Type 0) (r : Result V Fault)
@@ -37,3 +39,8 @@ run-probes Good Wanted Bad (Err fault) h turn = tt
 pub returns-clause-answer : goal.returns-clause-answer
 returns-clause-answer g c =
     run-probes _ _ _ c.plan_run.result c.plan_run.ensures.run (λ ran run. record { plan = c.in_ok-plan.plan; planned = c.in_ok-plan.ensures.answer; run = run })
+
+pub returns-clause-word : goal.returns-clause-word
+returns-clause-word g c =
+    let planned = c.in_ok-plan.ensures.answer in
+    held-word Sole c.args.blob.now planned.tree c.plan_run.result planned.held c.plan_run.ensures.word

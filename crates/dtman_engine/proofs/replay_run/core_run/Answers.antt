@@ -8,4 +8,4 @@ pub returns-in-Ok-clause-many : goal.returns-in-Ok-clause-many
 returns-in-Ok-clause-many g c = λ too. let none : None ≡ Some TooManyWorkers = c.in-Ok.ensures.many.1 too in cc
 
 pub returns-in-Err-clause-run : goal.returns-in-Err-clause-run
-returns-in-Err-clause-run g c = not-run c.args.workers c.in-Err.error (fault_value c.from.result) c.from.ensures c.in-Err.ensures.many
+returns-in-Err-clause-run g c = not-run c.args.workers c.in-Err.error (fault_value c.from.result) c.from.ensures.0 c.in-Err.ensures.many

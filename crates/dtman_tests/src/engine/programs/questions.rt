@@ -163,115 +163,117 @@ fn makes_drivers_and_schedules(rt: HostRuntime) {
     rows_end(&rt, FILES, ROWS);
 }
 
+// Questions about a board by the links of Linux, and what is refused of them.
+const BY_LINKS_OF_LINUX: &[Row] = &[
+    (
+        &[
+            "dtman",
+            "plan",
+            "board.dtb",
+            "early.drivers",
+            "--links=linux",
+        ],
+        0,
+        "# early /clk\n/clk - -\n/uart ns ok\ncompatible /clk fixed-clock\n",
+        "",
+    ),
+    (
+        &[
+            "dtman",
+            "probe",
+            "board.dtb",
+            "early.drivers",
+            "--links=linux",
+        ],
+        0,
+        "/clk unmatched\n/uart bound ns\nquiet\n",
+        "",
+    ),
+    (
+        &[
+            "dtman",
+            "why",
+            "board.dtb",
+            "uart.drivers",
+            "--links=linux",
+            "--check",
+        ],
+        1,
+        "/uart waits for /clk (clocks): no driver matches \"fixed-clock\"\n",
+        "",
+    ),
+    (
+        &[
+            "dtman",
+            "needs",
+            "board.dtb",
+            "early.drivers",
+            "/uart",
+            "--links=linux",
+        ],
+        0,
+        "/uart ns\ndrivers ns\n",
+        "",
+    ),
+    (
+        &[
+            "dtman",
+            "plan",
+            "dangling.dtb",
+            "board.drivers",
+            "--links=linux",
+        ],
+        0,
+        "/clk fixed ok\n/uart ns ok\n",
+        "warning: /uart: clocks: entry 0 is malformed or leads nowhere\n",
+    ),
+    (
+        &["dtman", "plan", "dangling.dtb", "board.drivers"],
+        1,
+        "",
+        "error 54 DanglingPhandle\n",
+    ),
+    (
+        &[
+            "dtman",
+            "probe",
+            "board.dtb",
+            "board.drivers",
+            "--links=linux",
+            "--without=fixed",
+        ],
+        0,
+        "/clk unmatched\n/uart waiting /clk\nquiet\n",
+        "",
+    ),
+    (
+        &[
+            "dtman",
+            "why",
+            "board.dtb",
+            "board.drivers",
+            "/nix",
+            "--links=linux",
+        ],
+        1,
+        "",
+        "error 53 UnknownPath\n",
+    ),
+    (
+        &["dtman", "plan", "board.dtb", "board.drivers", "--links=bsd"],
+        2,
+        "",
+        "error: no links are those of bsd; `linux` has some\n",
+    ),
+    (
+        &["dtman", "plan", "board.dtb", "early.drivers"],
+        1,
+        "",
+        "error 50 BadLine line 1\n",
+    ),
+];
+
 #[test]
 fn answers_by_the_links_of_linux(rt: HostRuntime) {
-    const ROWS: &[Row] = &[
-        (
-            &[
-                "dtman",
-                "plan",
-                "board.dtb",
-                "early.drivers",
-                "--links=linux",
-            ],
-            0,
-            "# early /clk\n/clk - -\n/uart ns ok\ncompatible /clk fixed-clock\n",
-            "",
-        ),
-        (
-            &[
-                "dtman",
-                "probe",
-                "board.dtb",
-                "early.drivers",
-                "--links=linux",
-            ],
-            0,
-            "/clk unmatched\n/uart bound ns\nquiet\n",
-            "",
-        ),
-        (
-            &[
-                "dtman",
-                "why",
-                "board.dtb",
-                "uart.drivers",
-                "--links=linux",
-                "--check",
-            ],
-            1,
-            "/uart waits for /clk (clocks): no driver matches \"fixed-clock\"\n",
-            "",
-        ),
-        (
-            &[
-                "dtman",
-                "needs",
-                "board.dtb",
-                "early.drivers",
-                "/uart",
-                "--links=linux",
-            ],
-            0,
-            "/uart ns\ndrivers ns\n",
-            "",
-        ),
-        (
-            &[
-                "dtman",
-                "plan",
-                "dangling.dtb",
-                "board.drivers",
-                "--links=linux",
-            ],
-            0,
-            "/clk fixed ok\n/uart ns ok\n",
-            "warning: /uart: clocks: entry 0 is malformed or leads nowhere\n",
-        ),
-        (
-            &["dtman", "plan", "dangling.dtb", "board.drivers"],
-            1,
-            "",
-            "error 54 DanglingPhandle\n",
-        ),
-        (
-            &[
-                "dtman",
-                "probe",
-                "board.dtb",
-                "board.drivers",
-                "--links=linux",
-                "--without=fixed",
-            ],
-            0,
-            "/clk unmatched\n/uart waiting /clk\nquiet\n",
-            "",
-        ),
-        (
-            &[
-                "dtman",
-                "why",
-                "board.dtb",
-                "board.drivers",
-                "/nix",
-                "--links=linux",
-            ],
-            1,
-            "",
-            "error 53 UnknownPath\n",
-        ),
-        (
-            &["dtman", "plan", "board.dtb", "board.drivers", "--links=bsd"],
-            2,
-            "",
-            "error: no links are those of bsd; `linux` has some\n",
-        ),
-        (
-            &["dtman", "plan", "board.dtb", "early.drivers"],
-            1,
-            "",
-            "error 50 BadLine line 1\n",
-        ),
-    ];
-    rows_end(&rt, FILES, ROWS);
+    rows_end(&rt, FILES, BY_LINKS_OF_LINUX);
 }

@@ -13,7 +13,7 @@ fn read<'a>(alloc: Global, words: &'a [&'a str]) -> Result<Command<'a>, ErrorKin
 }
 
 #[test]
-fn reads_the_command_line(rt: HostRuntime) {
+fn reads_replay_and_dump(rt: HostRuntime) {
     let words = ["dtman", "replay", "board.plan", "boot.schedule"];
     let replay = read(rt.alloc(), words.as_slice());
     assert!(rt;
@@ -48,6 +48,10 @@ fn reads_the_command_line(rt: HostRuntime) {
             })
         )
     );
+}
+
+#[test]
+fn reads_overlay_and_explain(rt: HostRuntime) {
     let words = ["dtman", "overlay", "base.dtb", "over.dtbo", "out.dtb"];
     let overlay = read(rt.alloc(), words.as_slice());
     assert!(rt;
@@ -183,6 +187,10 @@ fn reads_plan_with_its_option(rt: HostRuntime) {
             })
         )
     );
+}
+
+#[test]
+fn reads_plan_as_a_picture(rt: HostRuntime) {
     let words = [
         "dtman",
         "plan",
@@ -257,7 +265,7 @@ fn reads_probe_with_its_workers(rt: HostRuntime) {
 }
 
 #[test]
-fn reads_questions(rt: HostRuntime) {
+fn reads_probe_without_a_driver(rt: HostRuntime) {
     let words = ["dtman", "probe", "b", "d", "--without", "ns"];
     let less = read(rt.alloc(), words.as_slice());
     assert!(rt;
@@ -269,6 +277,10 @@ fn reads_questions(rt: HostRuntime) {
             })
         )
     );
+}
+
+#[test]
+fn reads_why(rt: HostRuntime) {
     let words = ["dtman", "why", "b", "d"];
     let all = read(rt.alloc(), words.as_slice());
     assert!(rt;
@@ -293,6 +305,10 @@ fn reads_questions(rt: HostRuntime) {
             })
         )
     );
+}
+
+#[test]
+fn reads_needs(rt: HostRuntime) {
     let words = ["dtman", "needs", "b", "d", "/uart"];
     let needs = read(rt.alloc(), words.as_slice());
     assert!(rt;
@@ -336,6 +352,10 @@ fn reads_questions(rt: HostRuntime) {
     let words = ["dtman", "plan", "b", "d", "--strict"];
     let alone = read(rt.alloc(), words.as_slice());
     assert!(rt; matches!(alone, Err(ErrorKind::MissingRequiredArgument)));
+}
+
+#[test]
+fn reads_drivers_and_trace(rt: HostRuntime) {
     let words = ["dtman", "drivers", "a", "m"];
     let drivers = read(rt.alloc(), words.as_slice());
     assert!(rt;
