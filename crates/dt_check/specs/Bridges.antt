@@ -1,6 +1,7 @@
 -- Buses by their own nodes: the cells of addresses and sizes on them (PCI Bus Binding to IEEE 1275, section 2.1.4; the bindings
 -- i2c/i2c.txt and spi/spi-controller.yaml of Linux: an SPI bus that is itself a slave has one device and no addresses).
-use Rattle.std.specs.Prelude.{ℕ, Bool, true, not, ◌&&◌, ◌||◌, ◌==◌, codes, if◌then◌else◌, length, Option, Some, None}
+use Rattle.std.specs.Prelude.{ℕ, Bool, true, false, not, ◌&&◌, ◌||◌, ◌==◌, codes, if◌then◌else◌, length, Option, Some, None}
+use Rattle.std.specs.Option.{option_map_or}
 use Rattle.dt_tree.specs.NodeData.{NodeData, nodes_of}
 use Rattle.dt_check.specs.declared.message.Bus.{Bus}
 use Rattle.dt_check.specs.declared.message.Bus.TheVariants.{Pci, Simple, I2c, Spi}
@@ -15,6 +16,10 @@ is_bridge Pci b = is_pci b
 is_bridge Simple b = is_simple b
 is_bridge I2c b = is_i2c b
 is_bridge Spi b = is_spi b
+
+-- a device on a bus of this kind
+abbrev pub is_below : Bus → HereData → Bool
+is_below bus here = option_map_or (is_bridge bus) here.above false
 
 -- a bus of I2C or SPI says nothing where no device is on it
 abbrev pub is_used : Bus → NodeData → Bool

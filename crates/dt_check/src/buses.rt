@@ -18,8 +18,8 @@ pub fn is_called(node: &Node, name: &[u8]) -> bool
 }
 
 /// Whether a node is a bridge to PCI.
-pub(crate) fn is_pci(node: &Node, marks: Marks) -> bool
-    requires { AreMarked node.now.properties marks.classes }
+pub(crate) fn is_pci(node: &Node, marks: &Marks) -> bool
+    requires { AreMarked node.now.properties marks.now.classes }
     ensures { result ≡ is_pci node.now }
 {
     match marks.value(node, b"device_type") {
@@ -29,8 +29,8 @@ pub(crate) fn is_pci(node: &Node, marks: Marks) -> bool
 }
 
 /// Whether a node is a bus whose devices are found without it.
-pub(crate) fn is_simple(node: &Node, marks: Marks) -> bool
-    requires { AreMarked node.now.properties marks.classes }
+pub(crate) fn is_simple(node: &Node, marks: &Marks) -> bool
+    requires { AreMarked node.now.properties marks.now.classes }
     ensures { result ≡ is_simple node.now }
 {
     match marks.value(node, b"compatible") {
@@ -74,8 +74,8 @@ fn any_spi(nodes: &[Node]) -> bool
 }
 
 /// Whether a node is an SPI bus without the name of one: may look at all its children.
-pub(crate) fn is_spi_like(node: &Node, marks: Marks) -> bool
-    requires { AreMarked node.now.properties marks.classes }
+pub(crate) fn is_spi_like(node: &Node, marks: &Marks) -> bool
+    requires { AreMarked node.now.properties marks.now.classes }
     ensures { result ≡ is_spi_like node.now }
 {
     !children(node).is_empty()
@@ -86,8 +86,8 @@ pub(crate) fn is_spi_like(node: &Node, marks: Marks) -> bool
 }
 
 /// Whether a node is the parent of interrupts.
-pub(crate) fn is_provider(node: &Node, marks: Marks) -> bool
-    requires { AreMarked node.now.properties marks.classes }
+pub(crate) fn is_provider(node: &Node, marks: &Marks) -> bool
+    requires { AreMarked node.now.properties marks.now.classes }
     ensures { result ≡ is_provider node.now }
 {
     marks.has(node, b"interrupt-controller") || marks.has(node, b"interrupt-map")

@@ -5,6 +5,7 @@ ghost use Rattle.dt_tree.specs.PathMap.{value_of};
 ghost use Rattle.dt_tree.specs.NodeData.{nodes_of};
 ghost use Rattle.dt_check.specs.Cells.{has, number_of};
 
+use crate::message::Bus;
 use crate::placed::Placed;
 use crate::texts::is_same;
 use crate::traits::Traits;
@@ -39,9 +40,11 @@ impl<'t> Model for Here<'t> {
 impl<'t> Here<'t> {
     ghost use Rattle.std.specs.Prelude.{false};
     ghost use Rattle.std.specs.Option.{option_map, option_map_or};
+    ghost use Rattle.dt_check.specs.Bridges.{is_below};
     ghost use Rattle.dt_check.specs.Buses.{is_pci, is_simple, is_i2c, is_spi_like, is_spi, is_provider};
     ghost use Rattle.dt_check.specs.Cells.{address_cells, size_cells};
     ghost use Rattle.dt_check.specs.Ports.{is_port};
+    ghost use Rattle.dt_check.specs.UnitRules.{has_unit};
 
     /// The node at its place, and what is above it.
     pub fn new(placed: &Placed<'t>, above: Option<&Placed<'t>>) -> Self
@@ -162,6 +165,25 @@ impl<'t> Here<'t> {
         ensures { result ≡ option_map_or is_i2c self.now.above false }
     {
         self.outer.i2c
+    }
+
+    /// Whether that is a bus of this kind.
+    pub fn is_below(&self, bus: Bus) -> bool
+        ensures { result ≡ is_below bus self.now }
+    {
+        match bus {
+            Bus::Pci => self.outer.pci,
+            Bus::Simple => self.outer.simple,
+            Bus::I2c => self.outer.i2c,
+            Bus::Spi => self.outer.spi,
+        }
+    }
+
+    /// Whether the node has a unit address.
+    pub fn has_unit(&self) -> bool
+        ensures { result ≡ has_unit self.now.node }
+    {
+        self.own.unit
     }
 
     /// How many cells an address has by the node above it: without one, 2.

@@ -11,10 +11,11 @@ use crate::texts::is_same;
 use crate::unit::{at_in, base_name, unit_address};
 use dt_tree::Property;
 
+// Small letters first: nearly all bytes of names are.
 fn is_plain(byte: u8) -> bool
     ensures { result ≡ is_plain byte }
 {
-    matches!(byte, b'a'..=b'z' | b'A'..=b'Z' | b'0'..=b'9')
+    matches!(byte, b'a'..=b'z') || matches!(byte, b'A'..=b'Z' | b'0'..=b'9')
 }
 
 fn is_node_byte(byte: u8) -> bool

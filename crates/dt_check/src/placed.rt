@@ -1,5 +1,6 @@
 //! A node of a tree in preorder.
 use crate::marks::Marks;
+use crate::message::Bus;
 use crate::traits::Traits;
 use dt_tree::{Bytes, Node};
 use std::marker::Model;
@@ -31,8 +32,10 @@ impl<'t> Model for Placed<'t> {
 
 impl<'t> Placed<'t> {
     ghost use Rattle.std.specs.Prelude.{◌≡◌};
+    ghost use Rattle.dt_check.specs.Bridges.{is_bridge};
     ghost use Rattle.dt_check.specs.Buses.{is_provider};
     ghost use Rattle.dt_check.specs.Ports.{is_port};
+    ghost use Rattle.dt_check.specs.UnitRules.{has_unit};
     ghost use Rattle.std.specs.Prelude.{ℕ, List, false};
     ghost use Rattle.std.specs.Option.{option_copied};
     ghost use Rattle.dt_tree.specs.PathMap.{value_of};
@@ -48,7 +51,7 @@ impl<'t> Placed<'t> {
         Self {
             node,
             above,
-            traits: Traits::of(node, marks),
+            traits: Traits::of(node, &marks),
             marks,
         }
     }
@@ -79,6 +82,25 @@ impl<'t> Placed<'t> {
         ensures { result ≡ is_provider self.now.node }
     {
         self.traits.provider
+    }
+
+    /// Whether the node has a unit address.
+    pub fn has_unit(&self) -> bool
+        ensures { result ≡ has_unit self.now.node }
+    {
+        self.traits.unit
+    }
+
+    /// Whether the node is a bus of this kind.
+    pub fn is_bus(&self, bus: Bus) -> bool
+        ensures { result ≡ is_bridge bus self.now.node }
+    {
+        match bus {
+            Bus::Pci => self.traits.pci,
+            Bus::Simple => self.traits.simple,
+            Bus::I2c => self.traits.i2c,
+            Bus::Spi => self.traits.spi,
+        }
     }
 
     pub(crate) fn traits(&self) -> Traits

@@ -7,6 +7,7 @@ ghost use Rattle.dt_check.specs.Nodes.{place_from};
 ghost use Rattle.dt_check.specs.Private.Places.{own_place};
 
 use crate::here::Here;
+use crate::message::Bus;
 use crate::placed::Placed;
 use crate::walk::nodes_of;
 use dt_tree::{Bytes, Node, Tree};
@@ -69,6 +70,7 @@ fn keep_places(
 }
 
 impl<'t> Survey<'t> {
+    ghost use Rattle.dt_check.specs.Bridges.{is_below};
     ghost use Rattle.dt_check.specs.Links.Interrupts.{is_provider_at};
     ghost use Rattle.dt_check.specs.Nodes.{tree_nodes, place_with, here_of, node_at, value_at, above_at};
 
@@ -161,6 +163,19 @@ impl<'t> Survey<'t> {
             Some(place) => self.nodes.get(place),
         };
         Here::new(placed, above)
+    }
+
+    /// Whether one of the nodes is below a bus of this kind.
+    pub fn is_below(&self, placed: &Placed<'t>, bus: Bus) -> bool
+        ensures { result ≡ is_below bus (here_of self.now placed.now) }
+    {
+        match placed.above() {
+            None => false,
+            Some(place) => match self.nodes.get(place) {
+                None => false,
+                Some(above) => above.is_bus(bus),
+            },
+        }
     }
 
     /// The first with this phandle.

@@ -6,11 +6,14 @@ ghost use Rattle.dt_check.specs.Private.Traits.{AreTraits, AreOuter};
 use crate::buses::{is_called, is_i2c, is_pci, is_provider, is_simple, is_spi_like};
 use crate::marks::Marks;
 use crate::ports::is_port;
+use crate::unit::unit_address;
 use dt_tree::Node;
 
 /// Which bus a node is, and what to graphs and interrupts; how many cells addresses and sizes below it have.
 #[derive(Clone, Copy)]
 pub(crate) struct Traits {
+    // a unit address
+    pub(crate) unit: bool,
     pub(crate) port: bool,
     pub(crate) pci: bool,
     pub(crate) simple: bool,
@@ -30,6 +33,7 @@ impl Traits {
         ensures { AreOuter None result }
     {
         Self {
+            unit: false,
             port: false,
             pci: false,
             simple: false,
@@ -43,12 +47,13 @@ impl Traits {
     }
 
     /// Of a node, by the names that its properties may have.
-    pub(crate) fn of(node: &Node, marks: Marks) -> Self
-        requires { AreMarked node.now.properties marks.classes }
+    pub(crate) fn of(node: &Node, marks: &Marks) -> Self
+        requires { AreMarked node.now.properties marks.now.classes }
         ensures { AreTraits node.now result }
     {
         let spi_like = is_spi_like(node, marks);
         Self {
+            unit: !unit_address(node.name_bytes()).is_empty(),
             port: is_port(node),
             pci: is_pci(node, marks),
             simple: is_simple(node, marks),

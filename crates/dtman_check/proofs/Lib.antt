@@ -1,3 +1,4 @@
+pub mod ClassLemmas
 pub mod FoundLemmas
 pub mod OrderLemmas
 pub mod RowLemmas

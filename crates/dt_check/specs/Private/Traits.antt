@@ -5,10 +5,12 @@ use Rattle.dt_tree.specs.NodeData.{NodeData}
 use Rattle.dt_check.specs.Buses.{is_pci, is_simple, is_i2c, is_spi_like, is_spi, is_provider}
 use Rattle.dt_check.specs.Cells.{address_cells, size_cells}
 use Rattle.dt_check.specs.Ports.{is_port}
+use Rattle.dt_check.specs.UnitRules.{has_unit}
 use Rattle.dt_check.specs.declared.traits.Traits.{Traits}
 
 -- these are the node's
 pub record AreTraits (b : NodeData) (t : Traits) : Type 0 where
+  pub unit : t.unit ≡ has_unit b
   pub port : t.port ≡ is_port b
   pub pci : t.pci ≡ is_pci b
   pub simple : t.simple ≡ is_simple b

@@ -6,6 +6,7 @@ use Rattle.std.specs.Option.{option_map}
 use Rattle.std.specs.Str.{bytes_eq}
 use Rattle.dt_tree.specs.NodeData.{nodes_of}
 use Rattle.dt_tree.specs.declared.property.Property.{Property}
+use Rattle.dt_check.specs.Bridges.{is_below}
 use Rattle.dt_check.specs.Cells.{has}
 use Rattle.dt_check.specs.Chosen.{is_gpio, is_named}
 use Rattle.dt_check.specs.Fault.{FaultData}
@@ -20,7 +21,7 @@ use Rattle.dt_check.specs.declared.links.lists.Listing.{Listing}
 use Rattle.dt_live.specs.Making.Places.{references_in}
 use Rattle.dt_live.specs.declared.making.places.Places.{Places}
 use Rattle.dtman_check.specs.declared.table.check.Among.{Among}
-use Rattle.dtman_check.specs.declared.table.check.Among.TheVariants.{All, With, WithEither, Part, Named as Called, Parents, WithUnit}
+use Rattle.dtman_check.specs.declared.table.check.Among.TheVariants.{All, With, WithEither, Below, Part, Named as Called, Parents, WithUnit}
 use Rattle.dtman_check.specs.declared.table.check.Finds.{Finds}
 use Rattle.dtman_check.specs.declared.table.check.Finds.TheVariants.{Nothing, Units, Unknown}
 use Rattle.dtman_check.specs.declared.table.check.Finds.TheVariants.{Node, Properties, Links, Lists, Aliases}
@@ -97,6 +98,7 @@ abbrev pub is_among : Among → HereData → Bool
 is_among All here = true
 is_among (With name) here = has here.node.properties name.now
 is_among (WithEither name other) here = has here.node.properties name.now || has here.node.properties other.now
+is_among (Below bus) here = is_below bus here
 is_among (Part kind) here = is_of kind here
 is_among (Called name) here = is_named name.now here.node
 is_among Parents here = not (length (nodes_of here.node.children) == 0)

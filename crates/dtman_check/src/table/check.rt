@@ -2,8 +2,8 @@
 
 use crate::table::rule::{LinkRule, PropertyRule, Rule};
 use crate::table::units::Counted;
-use dt_check::Graph;
 use dt_check::links::Listing;
+use dt_check::{Bus, Graph};
 
 /// What a mistake comes to, where nothing else is said.
 #[derive(Clone, Copy, Debug, PartialEq, Eq)]
@@ -22,6 +22,8 @@ pub enum Among {
     With(&'static [u8]),
     /// Those with a property of either name.
     WithEither(&'static [u8], &'static [u8]),
+    /// The devices on a bus of this kind.
+    Below(Bus),
     /// The ports of graphs, or the endpoints.
     Part(Graph),
     /// Those of this name.

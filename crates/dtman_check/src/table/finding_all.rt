@@ -9,7 +9,7 @@ ghost use Rattle.dtman_check.specs.Table.Found.{alias_fault_in, found_aliases, i
 
 use crate::table::check::{Among, Finds, Listed};
 use crate::table::finding::Finding;
-use crate::table::looking::{Classes, classes_of, finds_nothing, has_unit, may_find, next_with};
+use crate::table::looking::{Classes, classes_of, finds_nothing, may_find, next_with};
 use crate::table::rule::{LinkRule, PropertyRule, Rule};
 use crate::table::subject::Subject;
 use dt_check::links::{LinkFault, Listing, alias_fault, is_of, list_faults};
@@ -68,6 +68,8 @@ fn find_by_rules<'t>(
     Ok(())
 }
 
+// Apart, so that what looks at a node stays small.
+#[inline(never)]
 fn find_in_properties<'t>(
     findings: &mut Vec<Finding<'t>>,
     check: usize,
@@ -84,6 +86,7 @@ fn find_in_properties<'t>(
     Ok(())
 }
 
+#[inline(never)]
 fn find_by_links<'t>(
     findings: &mut Vec<Finding<'t>>,
     check: usize,
@@ -179,6 +182,7 @@ fn find_in_list<'t>(
     add_all(findings, check, lists.place, faults)
 }
 
+#[inline(never)]
 fn find_in_lists<'t>(
     findings: &mut Vec<Finding<'t>>,
     check: usize,
@@ -206,6 +210,7 @@ fn alias_fault_in<'t>(survey: &Survey<'_>, property: &'t Property) -> Option<Fau
     }
 }
 
+#[inline(never)]
 fn find_aliases<'t>(
     findings: &mut Vec<Finding<'t>>,
     check: usize,
@@ -223,6 +228,7 @@ fn find_aliases<'t>(
 }
 
 // Whether a check of these nodes looks at one.
+#[inline(always)]
 fn is_among(here: &Here<'_>, among: Among) -> bool
     ensures { result ≡ is_among among here.now }
 {
@@ -230,14 +236,16 @@ fn is_among(here: &Here<'_>, among: Among) -> bool
         Among::All => true,
         Among::With(name) => has(here.node(), name),
         Among::WithEither(name, other) => has(here.node(), name) || has(here.node(), other),
+        Among::Below(bus) => here.is_below(bus),
         Among::Part(kind) => is_of(here, kind),
         Among::Named(name) => is_named(here.node(), name),
         Among::Parents => !children(here.node()).is_empty(),
-        Among::WithUnit => has_unit(here.node()),
+        Among::WithUnit => here.has_unit(),
     }
 }
 
-// What it finds in a node.
+// What it finds in a node: in the loops themselves, of which each check goes through one.
+#[inline(always)]
 fn find_here<'t>(
     findings: &mut Vec<Finding<'t>>,
     check: usize,
@@ -288,6 +296,7 @@ fn find_here<'t>(
 }
 
 // What a check finds that asks for names of these classes.
+#[inline(never)]
 fn find_with<'t>(
     findings: &mut Vec<Finding<'t>>,
     check: usize,
@@ -321,7 +330,7 @@ fn find_at<'t>(
         ++ found_here check finds subject.entry.survey.now (option_copied subject.entry.written) place
         (here_of subject.entry.survey.now placed.now)) }
 {
-    if !may_find(placed, finds) {
+    if !may_find(subject.survey, placed, finds) {
         return Ok(());
     }
     find_here(
@@ -335,6 +344,7 @@ fn find_at<'t>(
 }
 
 // What any check finds, node by node.
+#[inline(never)]
 fn find_each<'t>(
     findings: &mut Vec<Finding<'t>>,
     check: usize,

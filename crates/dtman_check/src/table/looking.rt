@@ -1,23 +1,14 @@
 //! In which nodes a check may find something: quick looks, before a check looks at a node itself.
-ghost use Rattle.std.specs.Prelude.{◌≡◌, ◌≤◌, [], true, false, ℕ, List, Option, Some, length, drop};
-ghost use Rattle.dt_tree.specs.NodeData.{NodeData};
+ghost use Rattle.std.specs.Prelude.{◌≡◌, ◌≤◌, [], true, false, ℕ, List, Option, Some, length};
 ghost use Rattle.dt_check.specs.Nodes.{PlacedData, here_of};
-ghost use Rattle.dt_check.specs.UnitRules.{has_unit};
 ghost use Rattle.dt_live.specs.declared.making.places.Places.{Places};
 ghost use Rattle.dtman_check.specs.declared.table.check.Finds.{Finds};
 ghost use Rattle.dtman_check.specs.Table.Found.{is_among, found_here, found_from};
 ghost use Rattle.dtman_check.specs.Table.Private.Classes.{classes_among, classes_listed, classes_of};
+ghost use Rattle.dtman_check.specs.Table.Private.Passed.{FindsNothing, Passes};
 
 use crate::table::check::{Among, Finds, Listed};
-use dt_check::{Graph, Placed, children, class_of, is_named, unit_address};
-use dt_tree::Node;
-
-/// Whether a node has a unit address.
-pub(crate) fn has_unit(node: &Node) -> bool
-    ensures { result ≡ has_unit node.now }
-{
-    !unit_address(node.name_bytes()).is_empty()
-}
+use dt_check::{Graph, Placed, Survey, children, class_of, is_named};
 
 /// Whether a check finds nothing in any node: nothing at all, or not node by node.
 pub(crate) fn finds_nothing(finds: Finds) -> bool
@@ -53,7 +44,12 @@ fn classes_among(among: Among) -> Option<Classes>
             first: class_of(name),
             second: class_of(other),
         }),
-        Among::All | Among::Part(_) | Among::Named(_) | Among::Parents | Among::WithUnit => None,
+        Among::All
+        | Among::Below(_)
+        | Among::Part(_)
+        | Among::Named(_)
+        | Among::Parents
+        | Among::WithUnit => None,
     }
 }
 
@@ -84,21 +80,41 @@ pub(crate) fn classes_of(finds: Finds) -> Option<Classes>
 // A quick look whether a check that asks for names of these classes may find something in a node.
 #[inline(always)]
 fn may_have_either(placed: &Placed<'_>, classes: Classes) -> bool
-    ensures { result ≡ false
-        → (check : ℕ) (finds : Finds) (nodes : List PlacedData) (written : Option Places) (place : ℕ)
-        → classes_of finds ≡ Some classes → found_here check finds nodes written place (here_of nodes placed.now) ≡ [] }
+    ensures { result ≡ false → FindsNothing placed.now classes }
 {
     placed.may_have(classes.first) || placed.may_have(classes.second)
 }
 
-/// The place of the next node, from this one on, in which such a check may find something: or how many there are.
-pub(crate) fn next_with(nodes: &[Placed<'_>], from: usize, classes: Classes) -> usize
+// The same look of a check that asks for names of one class.
+#[inline(always)]
+fn may_have_one(placed: &Placed<'_>, classes: Classes) -> bool
+    requires { classes.first ≡ classes.second }
+    ensures { result ≡ false → FindsNothing placed.now classes }
+{
+    placed.may_have(classes.first)
+}
+
+// Nearly all checks ask for one name.
+fn next_with_one(nodes: &[Placed<'_>], from: usize, classes: Classes) -> usize
+    requires within { from ≤ length nodes.now }
+    requires one { classes.first ≡ classes.second }
+    ensures from { from ≤ result }
+    ensures within { result ≤ length nodes.now }
+    ensures passed { Passes nodes.now classes from result }
+{
+    for place in from..nodes.len() {
+        if may_have_one(&nodes[place], classes) {
+            return place;
+        }
+    }
+    nodes.len()
+}
+
+fn next_with_either(nodes: &[Placed<'_>], from: usize, classes: Classes) -> usize
     requires { from ≤ length nodes.now }
     ensures from { from ≤ result }
     ensures within { result ≤ length nodes.now }
-    ensures passed { (check : ℕ) (finds : Finds) (all : List PlacedData) (written : Option Places)
-        → classes_of finds ≡ Some classes → found_from check finds all written from (drop from nodes.now)
-        ≡ found_from check finds all written result (drop result nodes.now) }
+    ensures passed { Passes nodes.now classes from result }
 {
     for place in from..nodes.len() {
         if may_have_either(&nodes[place], classes) {
@@ -108,28 +124,41 @@ pub(crate) fn next_with(nodes: &[Placed<'_>], from: usize, classes: Classes) -> 
     nodes.len()
 }
 
+/// The place of the next node, from this one on, in which such a check may find something: or how many there are.
+pub(crate) fn next_with(nodes: &[Placed<'_>], from: usize, classes: Classes) -> usize
+    requires { from ≤ length nodes.now }
+    ensures from { from ≤ result }
+    ensures within { result ≤ length nodes.now }
+    ensures passed { Passes nodes.now classes from result }
+{
+    if classes.first == classes.second {
+        return next_with_one(nodes, from, classes);
+    }
+    next_with_either(nodes, from, classes)
+}
+
 // A quick look whether a check of these nodes, that asks for no names, may look at one.
-fn may_be_among(placed: &Placed<'_>, among: Among) -> bool
-    ensures { result ≡ false → (above : Option NodeData)
-        → is_among among (record { node = placed.now.node; above = above }) ≡ false }
+fn may_be_among<'t>(survey: &Survey<'t>, placed: &Placed<'t>, among: Among) -> bool
+    ensures { result ≡ false → is_among among (here_of survey.now placed.now) ≡ false }
 {
     match among {
         Among::All | Among::With(_) | Among::WithEither(_, _) | Among::Part(Graph::Endpoint) =>
             true,
+        Among::Below(bus) => survey.is_below(placed, bus),
         Among::Part(Graph::Port) => placed.is_port(),
         Among::Named(name) => is_named(placed.node(), name),
         Among::Parents => !children(placed.node()).is_empty(),
-        Among::WithUnit => has_unit(placed.node()),
+        Among::WithUnit => placed.has_unit(),
     }
 }
 
 /// A quick look whether a check that asks for no names may find something in a node.
-pub(crate) fn may_find(placed: &Placed<'_>, finds: Finds) -> bool
-    ensures { result ≡ false → (check : ℕ) (nodes : List PlacedData) (written : Option Places) (place : ℕ)
-        → found_here check finds nodes written place (here_of nodes placed.now) ≡ [] }
+pub(crate) fn may_find<'t>(survey: &Survey<'t>, placed: &Placed<'t>, finds: Finds) -> bool
+    ensures { result ≡ false → (check : ℕ) (written : Option Places) (place : ℕ)
+        → found_here check finds survey.now written place (here_of survey.now placed.now) ≡ [] }
 {
     match finds {
-        Finds::Node(among, _) | Finds::Links(among, _) => may_be_among(placed, among),
+        Finds::Node(among, _) | Finds::Links(among, _) => may_be_among(survey, placed, among),
         Finds::Nothing | Finds::Units(_) | Finds::Unknown => false,
         Finds::Aliases => is_named(placed.node(), b"aliases"),
         Finds::Lists(_, _) | Finds::Properties(_) => true,

@@ -9,7 +9,6 @@ ghost use Rattle.dtman_check.specs.Table.Units.{address_at, counts, is_disabled,
 ghost use Rattle.dtman_check.specs.Table.Units.{same_units, says_cells, told, units_found, units_from};
 
 use crate::table::finding::Finding;
-use crate::table::looking::has_unit;
 use dt_check::{Fault, Message, Placed, Survey, is_same, unit_address};
 use std::alloc::{AllocError, Global};
 use std::collections::BTreeMap;
@@ -61,7 +60,7 @@ fn counts(placed: &Placed<'_>, counted: Counted) -> bool
 fn is_unit(placed: &Placed<'_>, counted: Counted) -> bool
     ensures { result ≡ is_unit counted placed.now.node }
 {
-    has_unit(placed.node()) && counts(placed, counted)
+    placed.has_unit() && counts(placed, counted)
 }
 
 // An empty list for each.

@@ -2,7 +2,7 @@
 use Rattle.std.specs.Prelude.{Option, Some, None}
 use Rattle.dt_check.specs.Private.Marks.{class_of}
 use Rattle.dtman_check.specs.declared.table.check.Among.{Among}
-use Rattle.dtman_check.specs.declared.table.check.Among.TheVariants.{All, With, WithEither, Part, Named, Parents, WithUnit}
+use Rattle.dtman_check.specs.declared.table.check.Among.TheVariants.{All, With, WithEither, Below, Part, Named, Parents, WithUnit}
 use Rattle.dtman_check.specs.declared.table.check.Finds.{Finds}
 use Rattle.dtman_check.specs.declared.table.check.Finds.TheVariants.{Nothing, Units, Unknown}
 use Rattle.dtman_check.specs.declared.table.check.Finds.TheVariants.{Node, Properties, Links, Lists, Aliases}
@@ -14,6 +14,7 @@ abbrev pub classes_among : Among → Option Classes
 classes_among (With name) = Some (record { first = class_of name.now; second = class_of name.now })
 classes_among (WithEither name other) = Some (record { first = class_of name.now; second = class_of other.now })
 classes_among All = None
+classes_among (Below bus) = None
 classes_among (Part kind) = None
 classes_among (Named name) = None
 classes_among Parents = None

@@ -270,7 +270,7 @@ static PART_2: [Check; PART] = [
         prerequisites: &[24, 28],
         made_before: &[13, 14, 23, 24, 15, 28],
         finds: Finds::Node(
-            Among::With(b"reg"),
+            Among::Below(Bus::Pci),
             &[
                 Rule::LaterCells,
                 Rule::PciSpace,
@@ -284,7 +284,7 @@ static PART_2: [Check; PART] = [
         severity: Severity::Warning,
         prerequisites: &[24, 28],
         made_before: &[13, 14, 23, 24, 15, 28],
-        finds: Finds::Node(Among::With(b"reg"), &[Rule::PciBus]),
+        finds: Finds::Node(Among::Below(Bus::Pci), &[Rule::PciBus]),
     },
 ];
 
@@ -294,7 +294,7 @@ static PART_3: [Check; PART] = [
         severity: Severity::Warning,
         prerequisites: &[24, 29],
         made_before: &[13, 14, 23, 24, 19, 29],
-        finds: Finds::Node(Among::All, &[Rule::SimpleAddress]),
+        finds: Finds::Node(Among::Below(Bus::Simple), &[Rule::SimpleAddress]),
     },
     Check {
         name: "i2c_bus_bridge",
@@ -311,7 +311,7 @@ static PART_3: [Check; PART] = [
         severity: Severity::Warning,
         prerequisites: &[24, 34],
         made_before: &[13, 14, 23, 24, 34],
-        finds: Finds::Node(Among::All, &[Rule::I2cAddress, Rule::I2cBits]),
+        finds: Finds::Node(Among::Below(Bus::I2c), &[Rule::I2cAddress, Rule::I2cBits]),
     },
     Check {
         name: "spi_bus_bridge",
@@ -332,7 +332,7 @@ static PART_3: [Check; PART] = [
         severity: Severity::Warning,
         prerequisites: &[24, 36],
         made_before: &[13, 14, 23, 24, 36],
-        finds: Finds::Node(Among::All, &[Rule::SpiAddress]),
+        finds: Finds::Node(Among::Below(Bus::Spi), &[Rule::SpiAddress]),
     },
     Check {
         name: "avoid_default_addr_size",
@@ -370,7 +370,7 @@ static PART_3: [Check; PART] = [
         severity: Severity::Warning,
         prerequisites: &[],
         made_before: &[],
-        finds: Finds::Node(Among::All, &[Rule::ObsoleteController]),
+        finds: Finds::Node(Among::Named(b""), &[Rule::ObsoleteController]),
     },
     Check {
         name: "chosen_node_is_root",
