@@ -1,2 +1,3 @@
+pub mod DtcLemmas
 pub mod Making
 mod MetLemmas

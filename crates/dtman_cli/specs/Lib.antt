@@ -1,4 +1,5 @@
 pub mod CommandLine
+pub mod DtcOutput
 pub mod Grammar
 pub mod Labelled
 pub mod Making

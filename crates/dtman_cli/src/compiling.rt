@@ -59,7 +59,12 @@ pub enum Board {
 }
 
 impl Board {
-    pub fn blob(&self) -> &Vec<u8> {
+    ghost use Rattle.std.specs.Prelude.{◌≡◌};
+    ghost use Rattle.dtman_cli.specs.DtcOutput.{board_blob};
+
+    pub fn blob(&self) -> &Vec<u8>
+        ensures { result.now.items ≡ board_blob self.now }
+    {
         match self {
             Board::Blob(blob) => blob,
             Board::Source(made) => &made.compiled.blob,

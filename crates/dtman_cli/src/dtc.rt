@@ -5,6 +5,7 @@
 mod checking;
 mod edits;
 mod folder_tree;
+mod forming;
 mod layout;
 mod marked_value;
 mod markers;
@@ -13,6 +14,7 @@ mod overlaying;
 mod reports;
 mod running;
 mod source_layout;
+mod taking;
 mod wording;
 
 pub use layout::{Texts, layout_bytes};

@@ -1,5 +1,7 @@
 //! The files that a source takes in, looked for in the folders of the command line.
 ghost use Rattle.std.specs.Prelude.{◌≡◌};
+ghost use Rattle.dtman_cli.specs.DtcOutput.{SomeFile, NoFile};
+ghost use Rattle.dtman_cli.specs.Outcome.{IsOutcome};
 
 use crate::diagnosing::Given;
 use crate::outcome::{Outcome, compile_dtc};
@@ -29,7 +31,9 @@ pub fn compile_in<S: Surroundings>(
     found: &mut Vec<Vec<u8>>,
     source: Given<'_>,
     options: DtcOptions,
-) -> Outcome {
+) -> Outcome
+    ensures { IsOutcome SomeFile NoFile source.entry.name.now source.entry.bytes.now options result }
+{
     let mut files = Folders {
         surroundings,
         folders,
@@ -47,14 +51,12 @@ pub fn compile_in<S: Surroundings>(
 }
 
 impl<S: Surroundings> Files for Folders<'_, S> {
-    ghost use Rattle.std.specs.Prelude.{ℕ, List};
-    ghost use Rattle.dt_text.specs.Include.Searching.{FindsWithin};
+    ghost use Rattle.dtman_cli.specs.DtcOutput.{SomeFile, NoFile};
 
     // Some folders lead to it: they stand in `self`, of which this knows nothing.
-    ghost finds = { λ beside name found.
-        (folders : List (List ℕ)) × FindsWithin (λ path bytes. Unit {0}) (λ path. Unit {0}) folders beside name found };
+    ghost finds = { SomeFile };
 
-    ghost lacks = { λ beside name. Unit {0} };
+    ghost lacks = { NoFile };
 
     fn find(
         &mut self,

@@ -1,29 +1,19 @@
 //! A run of dtc: one input, one output.
-ghost use Rattle.std.specs.Prelude.{◌≡◌, false};
+ghost use Rattle.std.specs.Prelude.{◌≡◌, false, IfOk, IsSomeAnd};
+ghost use Rattle.dtman_cli.specs.DtcOutput.{IsConverted};
+ghost use Rattle.dtman_cli.specs.declared.dtc.options.Format.TheVariants.{Dtb};
+ghost use Rattle.dtman_cli.specs.declared.dtc.options.Output.TheVariants.{Holds};
 
-use crate::compiling::{Board, Made};
-use crate::diagnosing::Given;
-use crate::dtc::checking::checked;
 use crate::dtc::folder_tree::folder_blob;
-use crate::dtc::layout::{Texts, layout_bytes};
-use crate::dtc::options::{
-    Asked, Format, Options, Order, Output, format_named, format_of, read_words,
-};
-use crate::dtc::reports::{Failure, fail, report_fault, report_shortfall, report_source};
-use crate::dtc::source_layout::source_text;
+use crate::dtc::forming::judged_output;
+use crate::dtc::options::{Asked, Format, Options, Output, format_named, format_of, read_words};
+use crate::dtc::reports::{Failure, fail};
+use crate::dtc::taking::{Input, take};
 use crate::files::{named, put_at, write_in_place};
-use crate::folders::compile_in;
-use crate::further::Again;
 use crate::host::Host;
-use crate::outcome::Outcome;
 use crate::running::DONE;
 use crate::surroundings::Surroundings;
-use dt_blob::BlobError;
-use dt_text::include::plain;
-use dt_text::lexeme::Language;
-use dtman_blobs::{RoomError, set_boot_cpu, with_room};
-use dtman_engine::{Channel, DtcOptions, Fault, copy_bytes, sort_bytes};
-use std::hash::RandomState;
+use dtman_engine::Channel;
 
 /// The exit status of a run that didn't give its output.
 pub(crate) const FAILED: u8 = 1;
@@ -128,49 +118,25 @@ fn converted<'a, S: Surroundings, E: Eprint, T>(
         .to
         .unwrap_or(Output::Holds(wanted(options.output, given.from)));
     let mut found = Vec::new(host.alloc);
-    let taken = take(host, options, given, to, &mut found)?;
-    let bytes = judged_output(host, options, &taken, to)?;
+    let bytes = output_of(host, options, given, to, &mut found)?;
     put_found(host, options, found.as_slice())?;
     Ok(bytes)
 }
 
-/// What was given.
-#[derive(Drop)]
-struct Taken {
-    board: Board,
-    /// The blob with the paths of all labelled nodes, where these are asked for and can be told.
-    labelled: Vec<u8>,
-}
-
-/// What was given, as far as it is needed.
-fn take<S: Surroundings, E: Eprint, T>(
+/// What is made of an input. The paths of the files that it takes in are added.
+fn output_of<'a, S: Surroundings, E: Eprint, T>(
     host: &mut Host<'_, S, E, T>,
-    options: &Options<'_>,
+    options: &Options<'a>,
     given: Input,
     to: Output,
     found: &mut Vec<Vec<u8>>,
-) -> Result<Taken, Failure<'static>> {
-    let Input { from, bytes } = given;
-    let board = match (from, to) {
-        (Format::Dts, _) => {
-            return compiled_to(host, options, to, bytes.as_slice(), found);
-        }
-        // what is printed is read once, and what a folder holds was laid out just now
-        (Format::Dtb, Output::Holds(Format::Dts)) => Board::Blob(bytes),
-        (Format::Folder, _) => Board::Blob(booted(bytes, options)),
-        (Format::Dtb, _) => Board::Blob(copied(host, options, bytes.as_slice())?),
-    };
-    Ok(Taken {
-        board,
-        labelled: Vec::new(host.alloc),
-    })
-}
-
-/// An input: what it is, and its bytes; those of its blob where it is a folder.
-#[derive(Drop)]
-struct Input {
-    from: Format,
-    bytes: Vec<u8>,
+) -> Result<Option<Vec<u8>>, Failure<'a>>
+    // Where that is a blob: of the tree that the input says, in the order and with the room that are asked for.
+    ensures { to ≡ Holds Dtb → IfOk result (λ output. IsSomeAnd output
+        (λ blob. IsConverted options.now given.from given.bytes.items blob.items)) }
+{
+    let taken = take(host, options, given, to, found)?;
+    judged_output(host, options, &taken, to)
 }
 
 /// What the command line names as input.
@@ -199,15 +165,6 @@ fn is_folder<S: Surroundings, E: Eprint, T>(host: &mut Host<'_, S, E, T>, path: 
     host.surroundings.entries(host.alloc, path).is_ok()
 }
 
-/// A blob with the processor that was named to boot.
-fn booted(blob: Vec<u8>, options: &Options<'_>) -> Vec<u8> {
-    let mut blob = blob;
-    if let Some(number) = options.boot_cpu {
-        set_boot_cpu(blob.as_mut_slice(), number);
-    }
-    blob
-}
-
 /// What an output is: what its name says, else the other kind than the input.
 fn wanted(path: &str, from: Format) -> Format {
     let other = match from {
@@ -215,235 +172,6 @@ fn wanted(path: &str, from: Format) -> Format {
         Format::Dtb | Format::Folder => Format::Dts,
     };
     format_named(path).unwrap_or(other)
-}
-
-/// The name of the file that is read.
-fn name_of_input<'a>(options: &Options<'a>) -> &'a [u8] {
-    plain(named(options.input).as_bytes())
-}
-
-/// The source that was read, in a file of this name.
-fn source_in<'s>(name: &'s [u8], bytes: &'s [u8]) -> Given<'s> {
-    Given { name, bytes }
-}
-
-/// What a source comes to with all that it takes in.
-fn compiled<S: Surroundings, E: Eprint, T>(
-    host: &mut Host<'_, S, E, T>,
-    options: &Options<'_>,
-    hasher: RandomState,
-    source: &[u8],
-    found: &mut Vec<Vec<u8>>,
-    how: DtcOptions,
-) -> Outcome {
-    let name = name_of_input(options);
-    let source = source_in(name, source);
-    compile_in(
-        host.alloc,
-        hasher,
-        host.surroundings,
-        options.folders.as_slice(),
-        found,
-        source,
-        how,
-    )
-}
-
-/// A source that was compiled, or what was said of it.
-fn made<S: Surroundings, E: Eprint, T>(
-    host: &mut Host<'_, S, E, T>,
-    options: &Options<'_>,
-    source: &[u8],
-    found: &mut Vec<Vec<u8>>,
-) -> Result<Made, Failure<'static>> {
-    let Ok(hasher) = host.seed() else {
-        return Err(Failure::NoSeed);
-    };
-    let how = DtcOptions {
-        symbols: options.symbols,
-        boot_processor: options.boot_cpu,
-    };
-    match compiled(host, options, hasher, source, found, how) {
-        Outcome::Answered { text, answer } => match answer {
-            Ok(compiled) => Ok(Made { compiled, text }),
-            Err(fault) => {
-                let again = Again {
-                    hasher,
-                    language: Language::Dtc,
-                    symbols: options.symbols,
-                };
-                let name = name_of_input(options);
-                let text = source_in(name, text.as_slice());
-                Err(report_source(host, again, text, &fault))
-            }
-        },
-        Outcome::Short(shortfall) => Err(report_shortfall(host, shortfall)),
-    }
-}
-
-/// A blob laid out anew, with the processor that boots.
-fn copied<S: Surroundings, E: Eprint, T>(
-    host: &mut Host<'_, S, E, T>,
-    options: &Options<'_>,
-    blob: &[u8],
-) -> Result<Vec<u8>, Failure<'static>> {
-    let Ok(hasher) = host.seed() else {
-        return Err(Failure::NoSeed);
-    };
-    match copy_bytes(host.alloc, hasher, blob) {
-        Ok(copy) => Ok(booted(copy, options)),
-        Err(fault) => Err(refused(host, options, &fault)),
-    }
-}
-
-/// The blob in order of its names.
-fn sorted<S: Surroundings, E: Eprint, T>(
-    host: &mut Host<'_, S, E, T>,
-    options: &Options<'_>,
-    blob: &[u8],
-) -> Result<Vec<u8>, Failure<'static>> {
-    let Ok(hasher) = host.seed() else {
-        return Err(Failure::NoSeed);
-    };
-    match sort_bytes(host.alloc, hasher, blob) {
-        Ok(sorted) => Ok(sorted),
-        Err(fault) => Err(refused(host, options, &fault)),
-    }
-}
-
-/// Says a refusal of the input's blob.
-fn refused<S: Surroundings, E: Eprint, T>(
-    host: &mut Host<'_, S, E, T>,
-    options: &Options<'_>,
-    fault: &Fault,
-) -> Failure<'static> {
-    let blob = Given {
-        name: options.input.as_bytes(),
-        bytes: b"",
-    };
-    report_fault(host, blob, fault)
-}
-
-/// What a source was compiled to and, where it is to be printed, its labels.
-fn compiled_to<S: Surroundings, E: Eprint, T>(
-    host: &mut Host<'_, S, E, T>,
-    options: &Options<'_>,
-    to: Output,
-    source: &[u8],
-    found: &mut Vec<Vec<u8>>,
-) -> Result<Taken, Failure<'static>> {
-    let board = Board::Source(made(host, options, source, found)?);
-    let labelled = if to == Output::Holds(Format::Dts) {
-        labelled(host, options, source)?
-    } else {
-        Vec::new(host.alloc)
-    };
-    Ok(Taken { board, labelled })
-}
-
-/// The blob of a source with the paths of all labelled nodes; none where they can't be told.
-fn labelled<S: Surroundings, E: Eprint, T>(
-    host: &mut Host<'_, S, E, T>,
-    options: &Options<'_>,
-    source: &[u8],
-) -> Result<Vec<u8>, Failure<'static>> {
-    let Ok(hasher) = host.seed() else {
-        return Err(Failure::NoSeed);
-    };
-    let mut found = Vec::new(host.alloc);
-    let how = DtcOptions {
-        symbols: true,
-        boot_processor: None,
-    };
-    match compiled(host, options, hasher, source, &mut found, how) {
-        Outcome::Answered { answer, .. } => match answer {
-            Ok(compiled) => Ok(compiled.blob),
-            Err(_) => Ok(Vec::new(host.alloc)),
-        },
-        Outcome::Short(shortfall) => Err(report_shortfall(host, shortfall)),
-    }
-}
-
-/// What was taken, once it is checked, in the order and the form that are asked for.
-fn judged_output<'a, S: Surroundings, E: Eprint, T>(
-    host: &mut Host<'_, S, E, T>,
-    options: &Options<'a>,
-    taken: &Taken,
-    to: Output,
-) -> Result<Option<Vec<u8>>, Failure<'a>> {
-    checked(host, options, &taken.board)?;
-    let blob = taken.board.blob();
-    if options.order == Order::AsRead {
-        return formed(host, options, taken, blob.as_slice(), to);
-    }
-    let sorted = sorted(host, options, blob.as_slice())?;
-    formed(host, options, taken, sorted.as_slice(), to)
-}
-
-fn formed<S: Surroundings, E: Eprint, T>(
-    host: &mut Host<'_, S, E, T>,
-    options: &Options<'_>,
-    taken: &Taken,
-    blob: &[u8],
-    to: Output,
-) -> Result<Option<Vec<u8>>, Failure<'static>> {
-    match to {
-        Output::Holds(Format::Dts) => Ok(Some(printed(host, options, taken, blob)?)),
-        Output::Holds(_) => Ok(Some(widened(host, options, blob)?)),
-        Output::Nothing => Ok(None),
-    }
-}
-
-/// What was given, as a source in dtc's layout.
-fn printed<S: Surroundings, E: Eprint, T>(
-    host: &mut Host<'_, S, E, T>,
-    options: &Options<'_>,
-    taken: &Taken,
-    blob: &[u8],
-) -> Result<Vec<u8>, Failure<'static>> {
-    let Board::Source(made) = &taken.board else {
-        return dumped(host, options, Texts::Joined, blob);
-    };
-    match source_text(host.alloc, blob, made, taken.labelled.as_slice()) {
-        Ok(text) => Ok(text),
-        Err(BlobError::NoMemory) => Err(Failure::NoMemory),
-        Err(_) => dumped(host, options, Texts::Apart, blob),
-    }
-}
-
-/// The source of a blob in dtc's layout.
-fn dumped<S: Surroundings, E: Eprint, T>(
-    host: &mut Host<'_, S, E, T>,
-    options: &Options<'_>,
-    texts: Texts,
-    blob: &[u8],
-) -> Result<Vec<u8>, Failure<'static>> {
-    match layout_bytes(host.alloc, blob, texts) {
-        Ok(text) => Ok(text),
-        Err(error) => Err(refused(host, options, &Fault::from(error))),
-    }
-}
-
-/// The blob with the room that is asked for. A least size that it has already is told.
-fn widened<S: Surroundings, E: Eprint, T>(
-    host: &mut Host<'_, S, E, T>,
-    options: &Options<'_>,
-    blob: &[u8],
-) -> Result<Vec<u8>, Failure<'static>> {
-    let wide = match with_room(host.alloc, blob, &options.room) {
-        Ok(wide) => wide,
-        Err(RoomError::NoMemory) => return Err(Failure::NoMemory),
-        Err(RoomError::TooLong) => return Err(Failure::TooLong),
-        Err(RoomError::NoBlob) => return Err(Failure::NoBlob),
-    };
-    let (space, size) = (options.room.space, wide.len());
-    if 0 < space && (space as usize) < size && options.quiet == 0 {
-        let warning = format!(in host.alloc;
-            "Warning: blob size {size} >= minimum size {space}\n"
-        )?;
-        host.tell(warning.as_bytes());
-    }
-    Ok(wide)
 }
 
 /// Writes the files that were read, where that is asked for.
