@@ -22,9 +22,9 @@ bin/dtman-unproved: crates.txt $(shell find crates/*/src -name '*.rt') | toolcha
 	@.ci/unproved
 
 # The gate: every proof from nothing, the must-fail edits, the tests and the program. One job a check, on one processor, and as many checks as
-# processors: further jobs of one check would take a third more of their time.
+# processors: `rt` by itself reckons the memory of a check so high that half of the processors stand idle.
 test: toolchain
-	RT_JOBS=$$(nproc) .ci/lanes.py rt ci
+	@.ci/gate
 
 # Puts what bin/ has, with man pages and completions, below DESTDIR/PREFIX; takes it away again. Only a proved program is installed or packed.
 install: bin/dtman
@@ -38,13 +38,13 @@ dist deb: bin/dtman
 	@install/install.sh $@
 
 bin/dtman:
-	@echo "bin/dtman isn't built. \`make build\` proves it and builds it, which takes 70 to 100 processor minutes:" >&2; \
-	echo "half an hour to an hour on 4 cores. \`make demo\` leaves a program that isn't proved, in two to four minutes." >&2; \
+	@echo "bin/dtman isn't built. \`make build\` proves it and builds it, which takes 200 to 300 processor minutes:" >&2; \
+	echo "an hour to an hour and a half on 4 cores. \`make demo\` leaves a program that isn't proved, in two to four minutes." >&2; \
 	exit 1
 
 toolchain:
 	@command -v rt >/dev/null || { \
-	echo "rt isn't on the path: it is the command of the Rattle toolchain kit (rattle-kit-13f), which compiles and proves dtman." >&2; \
+	echo "rt isn't on the path: it is the command of the Rattle toolchain kit (rattle-kit-13b), which compiles and proves dtman." >&2; \
 	echo "The kit is one folder and needs no network: link its bin/rt into a folder of the path; then \`rt version\` tells the kit, \`rt doc\` its first page." >&2; \
 	exit 1; }
 

@@ -51,13 +51,15 @@ cd "$work/folder"
 touch board.dts board.dtb hat.dtbo board.drivers board.plan boot.schedule boot.log README
 # The line, and what is offered; folders are offered beside files.
 offers="
-c|check compile
+c|check compile cpp
 compile |board.dts sub
 compile board.dts |board.dtb hat.dtbo sub
 compile --s|--symbols
-compile --d|--dtc
+compile --d|--define --dtc
 compile --dtc -i |sub
 compile --dtc -i sub -i sub |board.dts sub
+compile -I |sub
+cpp |board.dts sub
 set --out |board.dtb hat.dtbo sub
 dtc --sy|--symbols
 dtc -o out.dtb -p 8 |board.dtb board.dts hat.dtbo sub

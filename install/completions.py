@@ -2,7 +2,7 @@
 import helped
 
 # Options that may be given again.
-AGAIN = ("--include", "--warning", "--error")
+AGAIN = ("--include", "--include-dir", "--define", "--preinclude", "--warning", "--error")
 
 # Endings of files.
 SOURCE, BLOB, PLAN = (".dts",), (".dtb", ".dtbo"), (".plan",)
@@ -13,12 +13,12 @@ NUMBER, FOLDER = ("number",), ("/",)
 # What shells offer in the place of an operand or of an option's value, by its name, or that of one command by both: files with one of
 # these endings, numbers of errors, or folders. In other places they offer nothing.
 OFFERED = {
-    "compile IN": SOURCE, "check IN": ANY, "dtc input file": ANY,
+    "compile IN": SOURCE, "cpp IN": SOURCE, "--preinclude": ANY, "check IN": ANY, "dtc input file": ANY,
     "IN": BLOB, "OUT": BLOB, "BASE": BLOB, "OVERLAY": BLOB, "BLOB": BLOB, "FIRST": BLOB, "SECOND": BLOB,
     "blob": BLOB, "file": BLOB, "overlay.dtbo": BLOB,
     "dtc --out": ANY, "fdtoverlay --input": BLOB, "fdtoverlay --output": BLOB,
     "DRIVERS": (".drivers",), "PLAN": PLAN, "SCHEDULE": (".schedule",), "LOG": (".log",),
-    "ALIASES": (".alias",), "MODINFO": (".modinfo",), "FILE": (".known",),
+    "ALIASES": (".alias",), "MODINFO": (".modinfo",), "IMAGE": ANY, "FILE": (".known",),
     "NUMBER": NUMBER, "DIR": FOLDER, "folder": FOLDER,
 }
 

@@ -48,7 +48,7 @@ enum {
 	DTMAN_EDIT_ROOT = 14,      /* of changes alone: the root isn't deleted */
 	DTMAN_EDIT_EXISTS = 15,    /* of changes alone: the node has a child of the name */
 	DTMAN_EDIT_TOO_DEEP = 16,  /* of changes alone: 64 nodes are round the node, so it has no child */
-	DTMAN_EDIT_END_PAIR = 17   /* of changes alone: an address and a size of zero end the list of reserved memory */
+	DTMAN_EDIT_END_PAIR = 17   /* of changes alone: a size of zero, which ends the list of reserved memory for some readers */
 };
 
 struct dtman_view_told {

@@ -1,9 +1,9 @@
 #!/usr/bin/env python3
 """Runs the gate, and prints its processor minutes as the table of docs/gate.md: a crate's proofs, tests and edits, and the edits' number.
 
-    RT_JOBS=4 python3 bench/gate/minutes.py .ci/lanes.py rt ci --anew
+    RT_JOBS=4 python3 bench/gate/minutes.py .ci/lanes.py rt ci
 
-With no words it runs `rt ci`; over `.ci/build --anew` it tells what the program alone takes. It looks at the processes below the
+With no words it runs `rt ci`; over `.ci/build` it tells what the program alone takes. It looks at the processes below the
 gate once a second, so what begins and ends between two looks is missed.
 """
 import glob

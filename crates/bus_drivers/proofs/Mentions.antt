@@ -11,7 +11,7 @@ use Rattle.bus_plan.specs.declared.error.PlanError.{PlanError}
 use Rattle.bus_drivers.specs.Nodes.{Target}
 use Rattle.bus_drivers.specs.declared.reference.Reference.{Reference}
 use Rattle.bus_drivers.specs.References.{followed_by, cells_behind, reference_with, reference_at, reference_of, cells_of, devices_in, is_length, references, property_references, all_references}
-use Rattle.bus_drivers.specs.SupplierTable.{Form, form_of}
+use Rattle.bus_drivers.specs.Forms.{Form, form_of}
 use Rattle.bus_drivers.specs.TreePlan.{first_mentions, suppliers_among}
 
 -- ---- what is referred to

@@ -1,10 +1,10 @@
 pub mod Driver
 pub mod DriverFile
 pub mod DriverSetBuilder
+pub mod Forms
 pub mod Modules
 pub mod Nodes
 pub mod Private
 pub mod References
 pub mod SupplierForm
-pub mod SupplierTable
 pub mod TreePlan

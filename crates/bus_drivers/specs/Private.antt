@@ -4,5 +4,4 @@ pub mod Matching
 pub mod PhandleIndex
 pub mod Planning
 pub mod Suppliers
-pub mod TableRows
 pub mod Walk

@@ -1,5 +1,5 @@
 -- What the values of a device's properties refer to: each reference is a phandle (Devicetree Specification v0.4, section 2.3.3) and
--- the cells of its specifier (section 2.5), read by the supplier table.
+-- the cells of its specifier (section 2.5), read by the table of those that hold phandles.
 use Rattle.std.specs.Prelude.{ℕ, ◌-◌, ◌%◌, Bool, ◌==◌, if◌then◌else◌, List, [], ◌∷◌, ◌++◌, length, Option, Some, None, option_and_then, Result, Ok, Err}
 use Rattle.std.specs.Option.{option_map_or, option_to_list}
 use Rattle.std.specs.Int.{from_be_bytes, w32}
@@ -11,7 +11,7 @@ use Rattle.bus_plan.specs.declared.error.PlanError.{PlanError}
 use Rattle.bus_plan.specs.declared.error.PlanError.TheVariants.{DanglingPhandle, BadSpecifier}
 use Rattle.bus_drivers.specs.declared.reference.Reference.{Reference}
 use Rattle.bus_drivers.specs.Nodes.{Target}
-use Rattle.bus_drivers.specs.SupplierTable.{Form, counted, bare, single, form_of}
+use Rattle.bus_drivers.specs.Forms.{Form, counted, bare, single, form_of}
 
 -- the one list and then the other, or the first fault
 abbrev pub followed_by : {A : Type 0} → Result (List A) PlanError → Result (List A) PlanError → Result (List A) PlanError

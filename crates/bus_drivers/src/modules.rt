@@ -3,6 +3,8 @@
 mod alias;
 mod modules;
 mod reading;
+mod tables;
 
 pub use modules::{ModuleDrivers, Unsaid};
-pub use reading::{Origin, module_drivers};
+pub use reading::{Kernel, Origin, module_drivers};
+pub use tables::{NOT_LOOKED_AT, lacks_builtin};

@@ -3,8 +3,8 @@ ghost use Rattle.bus_drivers.specs.Nodes.{target_of};
 ghost use Rattle.bus_drivers.specs.References.{cells_behind, reference_of};
 ghost use Rattle.bus_drivers.specs.SupplierForm.{form_data};
 
+use crate::form::Form;
 use crate::phandle_index::PhandleIndex;
-use crate::supplier_table::Form;
 use crate::target::Target;
 use bus_plan::{Device, PlanError};
 use dt_tree::cell_in;

@@ -7,10 +7,10 @@ ghost use Rattle.bus_drivers.specs.TreePlan.{suppliers_among};
 ghost use Rattle.bus_drivers.specs.Private.Suppliers.{with_mention, IsAdded};
 ghost use Rattle.bus_drivers.specs.SupplierForm.{form_data};
 
+use crate::form::Form;
 use crate::phandle_index::PhandleIndex;
 use crate::plan_fault::{Culprit, Entry, NO_ENTRY, PlanFault};
 use crate::reference::Reference;
-use crate::supplier_table::Form;
 use bus_plan::{Device, PlanError};
 use dt_tree::{Node, Property};
 use indexmap::IndexSet;

@@ -1,3 +1,4 @@
+pub mod EndsLemmas
 pub mod FoundLemmas
 pub mod InterruptLemmas
 pub mod WalkLemmas

@@ -1,6 +1,6 @@
 -- Plans by links are lawful.
 use Rattle.std.proofs.Common.{◌≡◌, ◌≢◌, ℕ, zero, suc, ◌+◌, ◌<◌, ◌≤◌, Bool, true, false, if◌then◌else◌, not, nat_lt, ◌&&◌, List, [], ◌∷◌, ◌++◌, length, map, Option, Some, None, option_and_then, refl, ap, sym, ◌∙◌, subst, arith}
-use Rattle.std.specs.Prelude.{filter, slice_get}
+use Rattle.std.specs.Prelude.{filter, slice_get, is_some, ◌==◌}
 use Rattle.std.specs.Option.{option_map_or, option_to_list}
 use Rattle.std.specs.List.{All, AllPairs, Contains}
 use Rattle.std.proofs.lemmas.List.{length-map}
@@ -19,9 +19,10 @@ use Rattle.bus_drivers.proofs.Lawful.{planned_lawful}
 use Rattle.bus_drivers.proofs.Mentions.{suppliers_all, suppliers_apart, suppliers_others}
 use Rattle.bus_links.specs.LinkDrivers.{LinkDriversData}
 use Rattle.bus_links.specs.Bindings.LinkNodes.{LinkNode, node_at, tree_nodes, device_places}
-use Rattle.bus_links.specs.LinkPlan.{suppliers_by, links_at, planned_by}
-use Rattle.bus_links.specs.Links.{LinkData, supplies, supplier_at, supplier_of, link_by, links_by, flags, is_bus_for, bus_above, bus_link, links_of, node_of, links_from, has_string, tree_links}
-use Rattle.bus_links.specs.Bindings.Mentions.{MentionData, found_at}
+use Rattle.bus_links.specs.LinkPlan.{suppliers_by, links_at, parent_at, planned_by}
+use Rattle.bus_links.specs.Links.{LinkData, supplier_at, supplier_of, link_by, links_by, flags, is_bus_for, bus_above, bus_link, links_of, node_of, links_from, parents_from, has_string, tree_links, tree_parents}
+use Rattle.bus_links.specs.Bindings.Endpoints.{found_of}
+use Rattle.bus_links.specs.Bindings.Mentions.{MentionData}
 
 -- ---- suppliers are devices
 abbrev IsWithin : ℕ → LinkData → Type 0
@@ -37,24 +38,24 @@ of_option P f None h = All-nil P
 of_option P f (Some s) h = All-cons P (f s) [] (h s refl) (All-nil P)
 
 module _ (nodes : List LinkNode) (devices : List TreeDevice) where
-  at_place : (consumer : TreeDevice) (own place s : ℕ) → supplier_at devices consumer own place ≡ Some s → s < length devices
-  at_place consumer own place s e = by (slice_get devices place) refl e where
-    by : (o : Option TreeDevice) → slice_get devices place ≡ o → (if option_map_or (λ d. supplies consumer own d place) o false then Some place else None) ≡ Some s → s < length devices
+  at_place : (own place s : ℕ) → supplier_at devices own place ≡ Some s → s < length devices
+  at_place own place s e = by (slice_get devices place) refl e where
+    by : (o : Option TreeDevice) → slice_get devices place ≡ o → (if is_some o && not (place == own) then Some place else None) ≡ Some s → s < length devices
     by None is h = absurd (cc h)
-    by (Some d) is h = subst (λ (k : ℕ). k < length devices) (some_if (supplies consumer own d place) place s h) (slice_get_within devices place d is)
+    by (Some d) is h = subst (λ (k : ℕ). k < length devices) (some_if (not (place == own)) place s h) (slice_get_within devices place d is)
 
-  of_node : (consumer : TreeDevice) (own node s : ℕ) → supplier_of nodes devices consumer own node ≡ Some s → s < length devices
-  of_node consumer own node s e = by (node_at nodes node).usable e where
-    by : (t : Bool) → (if t then option_and_then (supplier_at devices consumer own) (node_at nodes node).device else None) ≡ Some s → s < length devices
+  of_node : (own node s : ℕ) → supplier_of nodes devices own node ≡ Some s → s < length devices
+  of_node own node s e = by (node_at nodes node).usable e where
+    by : (t : Bool) → (if t then option_and_then (supplier_at devices own) (node_at nodes node).device else None) ≡ Some s → s < length devices
     by false h = absurd (cc h)
-    by true h = option_and_then_some (supplier_at devices consumer own) (node_at nodes node).device s h (λ place _ at. at_place consumer own place s at)
+    by true h = option_and_then_some (supplier_at devices own) (node_at nodes node).device s h (λ place _ at. at_place own place s at)
 
-  by_mentions : (consumer : TreeDevice) (own : ℕ) (ms : List MentionData) → All (IsWithin (length devices)) (links_by nodes devices consumer own ms)
-  by_mentions consumer own [] = All-nil (IsWithin (length devices))
-  by_mentions consumer own (m ∷ ms) =
-      All-append (IsWithin (length devices)) (map (link_by own m) (option_to_list (supplier_of nodes devices consumer own m.node))) (links_by nodes devices consumer own ms)
-      (of_option (IsWithin (length devices)) (link_by own m) (supplier_of nodes devices consumer own m.node) (λ s is. of_node consumer own m.node s is))
-      (by_mentions consumer own ms)
+  by_mentions : (own : ℕ) (ms : List MentionData) → All (IsWithin (length devices)) (links_by nodes devices own ms)
+  by_mentions own [] = All-nil (IsWithin (length devices))
+  by_mentions own (m ∷ ms) =
+      All-append (IsWithin (length devices)) (map (link_by own m) (option_to_list (supplier_of nodes devices own m.node))) (links_by nodes devices own ms)
+      (of_option (IsWithin (length devices)) (link_by own m) (supplier_of nodes devices own m.node) (λ s is. of_node own m.node s is))
+      (by_mentions own ms)
 
   module _ (buses : List Bool) (long : length buses ≡ length devices) where
     of_bus : (own bus : ℕ) → is_bus_for buses own bus ≡ true → bus < length devices
@@ -75,11 +76,11 @@ module _ (nodes : List LinkNode) (devices : List TreeDevice) where
 
     of_device : (strict : Bool) (d : TreeDevice) (own node : ℕ) → All (IsWithin (length devices)) (links_of nodes devices buses strict d own node)
     of_device strict d own node = by d.available where
-      by : (t : Bool) → All (IsWithin (length devices)) (if t then links_by nodes devices d own (found_at nodes strict node).mentions ++ map (bus_link own) (option_to_list (bus_above nodes buses own node)) else [])
+      by : (t : Bool) → All (IsWithin (length devices)) (if t then links_by nodes devices own (found_of nodes strict own node).mentions ++ map (bus_link own) (option_to_list (bus_above nodes buses own node)) else [])
       by false = All-nil (IsWithin (length devices))
       by true =
-          All-append (IsWithin (length devices)) (links_by nodes devices d own (found_at nodes strict node).mentions) (map (bus_link own) (option_to_list (bus_above nodes buses own node)))
-          (by_mentions d own (found_at nodes strict node).mentions)
+          All-append (IsWithin (length devices)) (links_by nodes devices own (found_of nodes strict own node).mentions) (map (bus_link own) (option_to_list (bus_above nodes buses own node)))
+          (by_mentions own (found_of nodes strict own node).mentions)
           (of_option (IsWithin (length devices)) (bus_link own) (bus_above nodes buses own node) (λ s is. of_bus_above own node s is))
 
     pub all_within : (strict : Bool) (places : List ℕ) (ds : List TreeDevice) (own k : ℕ) → All (IsWithin (length devices)) (links_at (links_from nodes devices buses strict places own ds) k)
@@ -87,54 +88,68 @@ module _ (nodes : List LinkNode) (devices : List TreeDevice) where
     all_within strict places (d ∷ ds) own zero = of_device strict d own (node_of places own)
     all_within strict places (d ∷ ds) own (suc k) = all_within strict places ds (own + 1) k
 
+    pub parents_within : (places : List ℕ) (ds : List TreeDevice) (own k s : ℕ) → parent_at (parents_from nodes buses places own ds) k ≡ Some s → s < length devices
+    parents_within places [] own k s e = absurd (cc e)
+    parents_within places (d ∷ ds) own zero s e = of_bus_above own (node_of places own) s e
+    parents_within places (d ∷ ds) own (suc k) s e = parents_within places ds (own + 1) k s e
+
+-- a parent, as a list
+of_parent : (n : ℕ) (o : Option ℕ) → ((s : ℕ) → o ≡ Some s → s < n) → All (λ s. s < n) (option_to_list o)
+of_parent n None h = All-nil (λ s. s < n)
+of_parent n (Some s) h = All-cons (λ s. s < n) s [] (h s refl) (All-nil (λ s. s < n))
+
 -- ---- one by one
-module _ (set : DriverSetData) (test : LinkData → Bool) (links : List (List LinkData)) where
-  planned_paths : (ds : List TreeDevice) (own : ℕ) → paths (planned_by set test links own ds) ≡ map (λ d. d.path) ds
+module _ (set : DriverSetData) (test : LinkData → Bool) (parents : List (Option ℕ)) (links : List (List LinkData)) where
+  planned_paths : (ds : List TreeDevice) (own : ℕ) → paths (planned_by set test parents links own ds) ≡ map (λ d. d.path) ds
   planned_paths [] own = refl
   planned_paths (d ∷ ds) own = ap (λ (ps : List (List ℕ)). d.path ∷ ps) (planned_paths ds (own + 1))
 
-  all_lawful : IsDriverSet set → (ds : List TreeDevice) (own : ℕ) → All (λ d. is_device_path d.path ≡ true) ds → All IsLawfulDevice (planned_by set test links own ds)
+  all_lawful : IsDriverSet set → (ds : List TreeDevice) (own : ℕ) → All (λ d. is_device_path d.path ≡ true) ds → All IsLawfulDevice (planned_by set test parents links own ds)
   all_lawful s [] own h = All-nil IsLawfulDevice
   all_lawful s (d ∷ ds) own h =
-      All-cons IsLawfulDevice (planned_device set d (suppliers_by test own (links_at links own))) (planned_by set test links (own + 1) ds)
-      (planned_lawful set s d (suppliers_by test own (links_at links own)) (All-head (λ x. is_device_path x.path ≡ true) d ds h))
+      All-cons IsLawfulDevice (planned_device set d (suppliers_by test own (links_at links own) (parent_at parents own))) (planned_by set test parents links (own + 1) ds)
+      (planned_lawful set s d (suppliers_by test own (links_at links own) (parent_at parents own)) (All-head (λ x. is_device_path x.path ≡ true) d ds h))
       (all_lawful s ds (own + 1) (All-tail (λ x. is_device_path x.path ≡ true) d ds h))
 
-  module _ (n : ℕ) (within : (k : ℕ) → All (IsWithin n) (links_at links k)) where
+  module _ (n : ℕ) (within : (k : ℕ) → All (IsWithin n) (links_at links k)) (parental : (k s : ℕ) → parent_at parents k ≡ Some s → s < n) where
     abbrev SuppliersAt : List PlannedDevice → ℕ → ℕ → Type 0
     SuppliersAt plan k place = (mentioned : List ℕ) × All (λ s. s < n) mentioned × (suppliers_of plan k ≡ suppliers_among place mentioned)
 
-    mentioned_at : (own : ℕ) → All (λ s. s < n) (map (λ l. l.supplier) (filter test (links_at links own)))
-    mentioned_at own = All-map (λ s. s < n) (λ (l : LinkData). l.supplier) (filter test (links_at links own)) (All-filter test (IsWithin n) (links_at links own) (within own))
+    mentioned_at : (own : ℕ) → All (λ s. s < n) (map (λ l. l.supplier) (filter test (links_at links own)) ++ option_to_list (parent_at parents own))
+    mentioned_at own =
+        All-append (λ s. s < n) (map (λ l. l.supplier) (filter test (links_at links own))) (option_to_list (parent_at parents own))
+        (All-map (λ s. s < n) (λ (l : LinkData). l.supplier) (filter test (links_at links own)) (All-filter test (IsWithin n) (links_at links own) (within own)))
+        (of_parent n (parent_at parents own) (parental own))
 
-    suppliers_at : (ds : List TreeDevice) (own k : ℕ) → SuppliersAt (planned_by set test links own ds) k (own + k)
+    suppliers_at : (ds : List TreeDevice) (own k : ℕ) → SuppliersAt (planned_by set test parents links own ds) k (own + k)
     suppliers_at [] own k = ([], All-nil (λ s. s < n), refl)
     suppliers_at (d ∷ ds) own zero =
         let same : own ≡ own + 0 = omega arith in
-        subst (λ (p : ℕ). SuppliersAt (planned_by set test links own (d ∷ ds)) 0 p) same (map (λ l. l.supplier) (filter test (links_at links own)), mentioned_at own, refl)
+        subst (λ (p : ℕ). SuppliersAt (planned_by set test parents links own (d ∷ ds)) 0 p) same (map (λ l. l.supplier) (filter test (links_at links own)) ++ option_to_list (parent_at parents own), mentioned_at own, refl)
     suppliers_at (d ∷ ds) own (suc k) =
         let same : (own + 1) + k ≡ own + suc k = omega arith in
-        subst (λ (p : ℕ). SuppliersAt (planned_by set test links (own + 1) ds) k p) same (suppliers_at ds (own + 1) k)
+        subst (λ (p : ℕ). SuppliersAt (planned_by set test parents links (own + 1) ds) k p) same (suppliers_at ds (own + 1) k)
 
 -- ---- the plan
-pub lawful_by : (t : TreeData) → IsTree t → (set : DriverSetData) → IsDriverSet set → length (device_nodes t.root) ≤ most_devices → (test : LinkData → Bool) (links : List (List LinkData))
-    → ((k : ℕ) → All (IsWithin (length (tree_devices t.root))) (links_at links k)) → IsLawful (planned_by set test links 0 (tree_devices t.root))
-lawful_by t is set named few test links within =
+pub lawful_by : (t : TreeData) → IsTree t → (set : DriverSetData) → IsDriverSet set → length (device_nodes t.root) ≤ most_devices → (test : LinkData → Bool) (parents : List (Option ℕ)) (links : List (List LinkData))
+    → ((k : ℕ) → All (IsWithin (length (tree_devices t.root))) (links_at links k)) → ((k s : ℕ) → parent_at parents k ≡ Some s → s < length (tree_devices t.root))
+    → IsLawful (planned_by set test parents links 0 (tree_devices t.root))
+lawful_by t is set named few test parents links within parental =
     let root : NodeData = t.root in
     let s : IsSoundInside root = inside root is.sound in
     let devices : List TreeDevice = tree_devices root in
-    let plan : List PlannedDevice = planned_by set test links 0 devices in
+    let plan : List PlannedDevice = planned_by set test parents links 0 devices in
     let n : ℕ = length devices in
-    let texts : paths plan ≡ map (λ (d : TreeDevice). d.path) devices = planned_paths set test links devices 0 in
+    let texts : paths plan ≡ map (λ (d : TreeDevice). d.path) devices = planned_paths set test parents links devices 0 in
     let long_plan = length-map plan (λ (d : PlannedDevice). d.path) in
     let long_devices = length-map devices (λ (d : TreeDevice). d.path) in
     let long_nodes = length-map (device_nodes root) (tree_device root) in
     let long : length plan ≡ n = sym long_plan ∙ ap length texts ∙ long_devices in
-    let at : (k : ℕ) → SuppliersAt set test links n within plan k k =
-    λ k. let same : 0 + k ≡ k = omega arith in subst (λ (p : ℕ). SuppliersAt set test links n within plan k p) same (suppliers_at set test links n within devices 0 k) in
+    let at : (k : ℕ) → SuppliersAt set test parents links n within parental plan k k =
+    λ k. let same : 0 + k ≡ k = omega arith in subst (λ (p : ℕ). SuppliersAt set test parents links n within parental plan k p) same (suppliers_at set test parents links n within parental devices 0 k) in
     record {
       few = omega (arith, long, long_nodes, few);
-      devices = all_lawful set test links named devices 0 (device_paths root s);
+      devices = all_lawful set test parents links named devices 0 (device_paths root s);
       distinct = subst (λ (ts : List (List ℕ)). AllPairs (λ a b. a ≢ b) ts) (sym texts) (device_paths-apart root s);
       suppliers = λ k. let here = at k in
           subst (λ (ds : List ℕ). All (λ x. x < length plan) ds) (sym here.2) (subst (λ (m : ℕ). All (λ x. x < m) (suppliers_among k here.0)) (sym long) (suppliers_all (λ x. x < n) k here.0 here.1));
@@ -142,15 +157,25 @@ lawful_by t is set named few test links within =
       others = λ k. let here = at k in subst (λ (ds : List ℕ). ¬ Contains ds k) (sym here.2) (suppliers_others k here.0);
     }
 
+-- the parents of a tree's devices are devices
+pub tree_parents_within : (root : NodeData) (parents : List (Option ℕ)) → parents ≡ tree_parents root → (k s : ℕ) → parent_at parents k ≡ Some s → s < length (tree_devices root)
+tree_parents_within root parents are k s e =
+    let all : List TreeDevice = tree_devices root in
+    let long : length (flags [] all) ≡ length all = length-map all (has_string []) in
+    parents_within (tree_nodes root) all (flags [] all) long (device_places (tree_nodes root)) all 0 k s (ap (λ (ps : List (Option ℕ)). parent_at ps k) (sym are) ∙ e)
+
+pub no_parents_within : (n k s : ℕ) → parent_at [] k ≡ Some s → s < n
+no_parents_within n k s e = absurd (cc e)
+
 -- and so for what is made of the tree's links
 pub lawful_linked : (t : TreeData) → IsTree t → (set : LinkDriversData) → IsDriverSet set.drivers → length (device_nodes t.root) ≤ most_devices → (strict : Bool)
-    → (matcher : DriverSetData) (links : List (List LinkData)) (devices : List TreeDevice) → matcher ≡ set.drivers → links ≡ tree_links t.root set strict → devices ≡ tree_devices t.root
-    → (test : LinkData → Bool) → IsLawful (planned_by matcher test links 0 devices)
-lawful_linked t is set named few strict matcher links devices by_set by_links by_tree test =
+    → (matcher : DriverSetData) (parents : List (Option ℕ)) (links : List (List LinkData)) (devices : List TreeDevice) → matcher ≡ set.drivers → links ≡ tree_links t.root set strict → devices ≡ tree_devices t.root
+    → ((k s : ℕ) → parent_at parents k ≡ Some s → s < length (tree_devices t.root)) → (test : LinkData → Bool) → IsLawful (planned_by matcher test parents links 0 devices)
+lawful_linked t is set named few strict matcher parents links devices by_set by_links by_tree parental test =
     let all : List TreeDevice = tree_devices t.root in
     let long : length (flags set.buses all) ≡ length all = length-map all (has_string set.buses) in
-    let lawful : IsLawful (planned_by set.drivers test (tree_links t.root set strict) 0 all) =
-    lawful_by t is set.drivers named few test (tree_links t.root set strict) (λ k. all_within (tree_nodes t.root) all (flags set.buses all) long strict (device_places (tree_nodes t.root)) all 0 k) in
-    subst (λ (m : DriverSetData). IsLawful (planned_by m test links 0 devices)) (sym by_set)
-    (subst (λ (ls : List (List LinkData)). IsLawful (planned_by set.drivers test ls 0 devices)) (sym by_links)
-    (subst (λ (ds : List TreeDevice). IsLawful (planned_by set.drivers test (tree_links t.root set strict) 0 ds)) (sym by_tree) lawful))
+    let lawful : IsLawful (planned_by set.drivers test parents (tree_links t.root set strict) 0 all) =
+    lawful_by t is set.drivers named few test parents (tree_links t.root set strict) (λ k. all_within (tree_nodes t.root) all (flags set.buses all) long strict (device_places (tree_nodes t.root)) all 0 k) parental in
+    subst (λ (m : DriverSetData). IsLawful (planned_by m test parents links 0 devices)) (sym by_set)
+    (subst (λ (ls : List (List LinkData)). IsLawful (planned_by set.drivers test parents ls 0 devices)) (sym by_links)
+    (subst (λ (ds : List TreeDevice). IsLawful (planned_by set.drivers test parents (tree_links t.root set strict) 0 ds)) (sym by_tree) lawful))

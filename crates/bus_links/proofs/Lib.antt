@@ -1,4 +1,5 @@
 pub mod BindingsLemmas
 pub mod LawfulLinks
+mod MentionsLemmas
 mod NoCycle
 mod RefusalLemmas

@@ -1,6 +1,6 @@
 -- With the relaxed links out no cycle is left: where a chain comes back each of its links lies in a cycle, so it is one to a bus, and a
 -- bus stands before what is on it.
-use Rattle.std.proofs.Common.{◌≡◌, ◌⊎◌, inl, inr, ⊎_elim, ℕ, zero, suc, ◌+◌, ◌<◌, Bool, true, false, if◌then◌else◌, not, nat_lt, ◌&&◌, ◌||◌, ◌==◌, List, [], ◌∷◌, ◌++◌, length, map, Option, Some, None, option_and_then, refl, ap, sym, ◌∙◌, subst, arith}
+use Rattle.std.proofs.Common.{◌≡◌, ◌⊎◌, inl, inr, ⊎_elim, ℕ, zero, suc, ◌+◌, ◌<◌, Bool, true, false, if◌then◌else◌, not, nat_lt, ◌&&◌, ◌==◌, List, [], ◌∷◌, ◌++◌, length, map, Option, Some, None, refl, ap, sym, ◌∙◌, subst, append-nil, arith}
 use Rattle.std.specs.Prelude.{filter, slice_get}
 use Rattle.std.specs.Option.{option_map_or, option_to_list}
 use Rattle.std.specs.List.{All}
@@ -8,23 +8,23 @@ use Rattle.std.proofs.lemmas.Bool.{eqb-true, eq-eqb, ne_eqb, cases_eq}
 use Rattle.std.proofs.lemmas.Bool.Decides.{nat_tests}
 use Rattle.std.proofs.lemmas.List.Elements.{All-nil, All-cons, All-head, All-tail, All-append}
 use Rattle.std.proofs.lemmas.Option.{option_and_then_some}
-use Rattle.dt_tree.specs.NodeData.{NodeData}
 use Rattle.dt_tree.proofs.Places.{both}
 use Rattle.bus_plan.specs.Consumers.{has_supplier}
-use Rattle.bus_plan.specs.Plan.{PlannedDevice, suppliers_of}
+use Rattle.bus_plan.specs.Plan.{PlannedDevice}
 use Rattle.bus_drivers.specs.Driver.{DriverSetData}
 use Rattle.bus_drivers.specs.Nodes.{TreeDevice, tree_devices}
 use Rattle.bus_drivers.specs.TreePlan.{first_mentions, suppliers_among}
 use Rattle.bus_links.specs.Bindings.LinkNodes.{LinkNode, node_at, tree_nodes, device_places}
-use Rattle.bus_links.specs.Bindings.Mentions.{MentionData, found_at}
+use Rattle.bus_links.specs.Bindings.Endpoints.{found_of}
+use Rattle.bus_links.specs.Bindings.Mentions.{MentionData}
 use Rattle.bus_plan.specs.Reach.Takes.{Takes}
 use Rattle.bus_plan.specs.Reach.Components.{AreComponents, component_of}
 use Rattle.bus_plan.specs.Reach.Reached.{is_in}
 use Rattle.bus_plan.proofs.ReachLemmas.InLemmas.{some_or, or_left, or_right, in_filter, filter_in}
 use Rattle.bus_plan.proofs.ReachLemmas.TakesLemmas.{takes_on, takes_supplier, known_consumer}
 use Rattle.bus_links.specs.Laws.{is_chain, NoCycleIsLeft}
-use Rattle.bus_links.specs.LinkPlan.{is_relaxed, is_counted, is_waited_for, suppliers_by, links_at, planned_by}
-use Rattle.bus_links.specs.Links.{LinkData, supplier_of, link_by, links_by, flags, is_bus_for, bus_above, bus_link, links_of, node_of, links_from, tree_links}
+use Rattle.bus_links.specs.LinkPlan.{is_counted, is_waited_for, suppliers_by, links_at, parent_at, planned_by}
+use Rattle.bus_links.specs.Links.{LinkData, supplier_of, link_by, links_by, flags, is_bus_for, bus_above, bus_link, links_of, node_of, links_from, tree_links, tree_parents}
 
 -- ---- suppliers, each once
 filter_keeps : (p : ℕ → Bool) (ds : List ℕ) (s : ℕ) → is_in (filter p ds) s ≡ true → is_in ds s ≡ true
@@ -63,6 +63,16 @@ among_both own s these those h e =
 among_these : (own s : ℕ) (these : List ℕ) → is_in (suppliers_among own these) s ≡ true → is_in these s ≡ true
 among_these own s these e = filter_keeps (λ d. not (d == own)) these s (mentioned (filter (λ d. not (d == own)) these) s e)
 
+-- ---- beside others
+in_left : (ds es : List ℕ) (s : ℕ) → is_in ds s ≡ true → is_in (ds ++ es) s ≡ true
+in_left [] es s e = absurd (let bad : false ≡ true = e in cc bad)
+in_left (d ∷ ds) es s e =
+    ⊎_elim (λ here. or_left (d == s) (is_in (ds ++ es) s) here) (λ later. or_right (d == s) (is_in (ds ++ es) s) (in_left ds es s later))
+    (some_or (d == s) (is_in ds s) e)
+
+in_alone : (ds : List ℕ) (s : ℕ) → is_in (ds ++ []) s ≡ true → is_in ds s ≡ true
+in_alone ds s e = ap (λ (es : List ℕ). is_in es s) (sym (append-nil ds)) ∙ e
+
 -- ---- links know their consumer, and a bus stands before it
 abbrev IsShaped : ℕ → LinkData → Type 0
 IsShaped own l = (l.consumer ≡ own) × (l.is_bus ≡ true → l.supplier < own)
@@ -72,12 +82,12 @@ of_option P f None h = All-nil P
 of_option P f (Some s) h = All-cons P (f s) [] (h s refl) (All-nil P)
 
 module _ (nodes : List LinkNode) (devices : List TreeDevice) (buses : List Bool) where
-  shaped_mentions : (consumer : TreeDevice) (own : ℕ) (ms : List MentionData) → All (IsShaped own) (links_by nodes devices consumer own ms)
-  shaped_mentions consumer own [] = All-nil (IsShaped own)
-  shaped_mentions consumer own (m ∷ ms) =
-      All-append (IsShaped own) (map (link_by own m) (option_to_list (supplier_of nodes devices consumer own m.node))) (links_by nodes devices consumer own ms)
-      (of_option (IsShaped own) (link_by own m) (supplier_of nodes devices consumer own m.node) (λ s is. (refl, λ e. absurd (let bad : false ≡ true = e in cc bad))))
-      (shaped_mentions consumer own ms)
+  shaped_mentions : (own : ℕ) (ms : List MentionData) → All (IsShaped own) (links_by nodes devices own ms)
+  shaped_mentions own [] = All-nil (IsShaped own)
+  shaped_mentions own (m ∷ ms) =
+      All-append (IsShaped own) (map (link_by own m) (option_to_list (supplier_of nodes devices own m.node))) (links_by nodes devices own ms)
+      (of_option (IsShaped own) (link_by own m) (supplier_of nodes devices own m.node) (λ s is. (refl, λ e. absurd (let bad : false ≡ true = e in cc bad))))
+      (shaped_mentions own ms)
 
   bus_before : (own node s : ℕ) → bus_above nodes buses own node ≡ Some s → s < own
   bus_before own node s e =
@@ -92,11 +102,11 @@ module _ (nodes : List LinkNode) (devices : List TreeDevice) (buses : List Bool)
 
   shaped_device : (strict : Bool) (d : TreeDevice) (own node : ℕ) → All (IsShaped own) (links_of nodes devices buses strict d own node)
   shaped_device strict d own node = by d.available where
-    by : (t : Bool) → All (IsShaped own) (if t then links_by nodes devices d own (found_at nodes strict node).mentions ++ map (bus_link own) (option_to_list (bus_above nodes buses own node)) else [])
+    by : (t : Bool) → All (IsShaped own) (if t then links_by nodes devices own (found_of nodes strict own node).mentions ++ map (bus_link own) (option_to_list (bus_above nodes buses own node)) else [])
     by false = All-nil (IsShaped own)
     by true =
-        All-append (IsShaped own) (links_by nodes devices d own (found_at nodes strict node).mentions) (map (bus_link own) (option_to_list (bus_above nodes buses own node)))
-        (shaped_mentions d own (found_at nodes strict node).mentions)
+        All-append (IsShaped own) (links_by nodes devices own (found_of nodes strict own node).mentions) (map (bus_link own) (option_to_list (bus_above nodes buses own node)))
+        (shaped_mentions own (found_of nodes strict own node).mentions)
         (of_option (IsShaped own) (bus_link own) (bus_above nodes buses own node) (λ s is. (refl, λ _. bus_before own node s is)))
 
   shaped_all : (strict : Bool) (places : List ℕ) (ds : List TreeDevice) (own k : ℕ) → All (IsShaped (own + k)) (links_at (links_from nodes devices buses strict places own ds) k)
@@ -160,19 +170,22 @@ module _ (early : List Bool) (components : List ℕ) where
         (some_or (l.supplier == s) (is_in (waited_for ls) s) (let g : is_in (l.supplier ∷ waited_for ls) s ≡ true = rw is at e in g))
 
   -- ---- in a plan
-  module _ (set : DriverSetData) (links : List (List LinkData)) (shaped : (k : ℕ) → All (IsShaped k) (links_at links k)) where
+  module _ (set : DriverSetData) (parents : List (Option ℕ)) (links : List (List LinkData)) (shaped : (k : ℕ) → All (IsShaped k) (links_at links k)) where
     abbrev whole : ℕ → List TreeDevice → List PlannedDevice
-    whole own ds = planned_by set (is_counted early) links own ds
+    whole own ds = planned_by set (is_counted early) parents links own ds
 
     abbrev relaxed : ℕ → List TreeDevice → List PlannedDevice
-    relaxed own ds = planned_by set (is_waited_for early components) links own ds
+    relaxed own ds = planned_by set (is_waited_for early components) [] links own ds
 
-    steps_at : (own s : ℕ) → is_in (suppliers_by (is_waited_for early components) own (links_at links own)) s ≡ true
-        → (is_in (suppliers_by (is_counted early) own (links_at links own)) s ≡ true) × (rank own ≡ rank s → s < own)
-    steps_at own s e = (
-      among_both own s (waited_for (links_at links own)) (counted (links_at links own)) (λ there. (among own s (links_at links own) (shaped own) there).0) e,
-      (among own s (links_at links own) (shaped own) (among_these own s (waited_for (links_at links own)) e)).1,
-    )
+    steps_at : (own s : ℕ) → is_in (suppliers_by (is_waited_for early components) own (links_at links own) None) s ≡ true
+        → (is_in (suppliers_by (is_counted early) own (links_at links own) (parent_at parents own)) s ≡ true) × (rank own ≡ rank s → s < own)
+    steps_at own s e =
+        let these : List ℕ = waited_for (links_at links own) in
+        let those : List ℕ = counted (links_at links own) in
+        let parent : List ℕ = option_to_list (parent_at parents own) in (
+          among_both own s (these ++ []) (those ++ parent) (λ there. in_left those parent s (among own s (links_at links own) (shaped own) (in_alone these s there)).0) e,
+          (among own s (links_at links own) (shaped own) (in_alone these s (among_these own s (these ++ []) e))).1,
+        )
 
     steps_from : (ds : List TreeDevice) (own k s : ℕ) → has_supplier (relaxed own ds) k s ≡ true → (has_supplier (whole own ds) k s ≡ true) × (rank (own + k) ≡ rank s → s < own + k)
     steps_from [] own k s e = absurd (let bad : false ≡ true = e in cc bad)
@@ -224,10 +237,11 @@ pub no_cycle : NoCycleIsLeft
 no_cycle = λ root set strict components are d between chain.
     let early : List Bool = flags set.early (tree_devices root) in
     let links : List (List LinkData) = tree_links root set strict in
+    let parents : List (Option ℕ) = tree_parents root in
     let shaped : (k : ℕ) → All (IsShaped k) (links_at links k) =
     λ k. let same : 0 + k ≡ k = omega arith in
     subst (λ (p : ℕ). All (IsShaped p) (links_at links k)) same (shaped_all (tree_nodes root) (tree_devices root) (flags set.buses (tree_devices root)) strict (device_places (tree_nodes root)) (tree_devices root) 0 k) in
-    let known = begins early components set.drivers links shaped (tree_devices root) are d d between chain in
-    let way = along early components set.drivers links shaped (tree_devices root) are d d between known chain in
+    let known = begins early components set.drivers parents links shaped (tree_devices root) are d d between chain in
+    let way = along early components set.drivers parents links shaped (tree_devices root) are d d between known chain in
     let low : d < d = way.1 way.0 in
     absurd (omega arith)

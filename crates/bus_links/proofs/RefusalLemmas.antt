@@ -1,11 +1,10 @@
 -- Refusals of a tree, and what is made of one.
-use Rattle.std.proofs.Common.{◌≡◌, ◌∙◌, refl, ap, sym, ℕ, ◌<◌, ◌≤◌, Bool, true, false, List, length, Option, Some, None, arith}
+use Rattle.std.proofs.Common.{◌≡◌, ◌∙◌, refl, ap, sym, ◌<◌, ◌≤◌, Bool, true, false, List, length, Some, arith}
 use Rattle.std.specs.Prelude.{nat_le}
 use Rattle.std.specs.Option.{option_map}
 use Rattle.std.proofs.lemmas.Bool.{le-leb}
 use Rattle.std.proofs.lemmas.Bool.Decides.{nat_tests}
 use Rattle.dt_tree.specs.NodeData.{NodeData}
-use Rattle.bus_plan.specs.declared.error.PlanError.{PlanError}
 use Rattle.bus_plan.specs.declared.error.PlanError.TheVariants.{UnknownPath, TooManyDevices}
 use Rattle.bus_plan.specs.Limits.{most_devices}
 use Rattle.bus_drivers.specs.Driver.{DriverSetData}

@@ -1,7 +1,8 @@
 -- The plan of a tree by the links of Linux. A device waits for the suppliers of its links, but for early ones, and but for links
--- that lie in a cycle: those are relaxed. The bus above stays a supplier, since buses make no cycle.
-use Rattle.std.specs.Prelude.{ℕ, ◌+◌, Bool, not, ◌&&◌, ◌==◌, nat_le, if◌then◌else◌, List, [], ◌∷◌, map, filter, length, Option, Some}
-use Rattle.std.specs.Option.{option_map}
+-- that lie in a cycle: those are relaxed. Cycles run along links and from each device to the one above it (drivers/base/core.c of
+-- Linux 6.1: `__fw_devlink_relax_cycles`). The bus above stays a supplier, since buses alone make no cycle.
+use Rattle.std.specs.Prelude.{ℕ, ◌+◌, Bool, not, ◌&&◌, ◌==◌, nat_le, if◌then◌else◌, List, [], ◌∷◌, ◌++◌, map, filter, length, Option, Some, None}
+use Rattle.std.specs.Option.{option_map, option_to_list}
 use Rattle.std.specs.List.{slice_index_or}
 use Rattle.dt_tree.specs.NodeData.{NodeData}
 use Rattle.bus_plan.specs.declared.error.PlanError.{PlanError}
@@ -13,7 +14,7 @@ use Rattle.bus_drivers.specs.Nodes.{TreeDevice, device_nodes, tree_devices}
 use Rattle.bus_drivers.specs.TreePlan.{suppliers_among, planned_device, unknown_fail}
 use Rattle.bus_plan.specs.Reach.Components.{component_of}
 use Rattle.bus_links.specs.LinkDrivers.{LinkDriversData}
-use Rattle.bus_links.specs.Links.{LinkData, flags, flag_at, tree_links}
+use Rattle.bus_links.specs.Links.{LinkData, flags, flag_at, tree_links, tree_parents}
 
 -- ---- which links are waited for
 -- a link between devices of one component lies in a cycle; that to the bus above isn't relaxed
@@ -28,28 +29,31 @@ abbrev pub is_waited_for : List Bool → List ℕ → LinkData → Bool
 is_waited_for early components l = is_counted early l && not (is_relaxed components l)
 
 -- ---- suppliers
--- those of the links of the device at this place that pass the test
-abbrev pub suppliers_by : (LinkData → Bool) → ℕ → List LinkData → List ℕ
-suppliers_by test own links = suppliers_among own (map (λ l. l.supplier) (filter test links))
+-- those of the links of the device at this place that pass the test, and its parent
+abbrev pub suppliers_by : (LinkData → Bool) → ℕ → List LinkData → Option ℕ → List ℕ
+suppliers_by test own links parent = suppliers_among own (map (λ l. l.supplier) (filter test links) ++ option_to_list parent)
 
 abbrev pub links_at : List (List LinkData) → ℕ → List LinkData
 links_at links own = slice_index_or links own []
 
+abbrev pub parent_at : List (Option ℕ) → ℕ → Option ℕ
+parent_at parents own = slice_index_or parents own None
+
 -- these devices planned, the first of which has this place
-abbrev pub planned_by : DriverSetData → (LinkData → Bool) → List (List LinkData) → ℕ → List TreeDevice → List PlannedDevice
-planned_by set test links own [] = []
-planned_by set test links own (d ∷ ds) =
-    planned_device set d (suppliers_by test own (links_at links own)) ∷ planned_by set test links (own + 1) ds
+abbrev pub planned_by : DriverSetData → (LinkData → Bool) → List (Option ℕ) → List (List LinkData) → ℕ → List TreeDevice → List PlannedDevice
+planned_by set test parents links own [] = []
+planned_by set test parents links own (d ∷ ds) =
+    planned_device set d (suppliers_by test own (links_at links own) (parent_at parents own)) ∷ planned_by set test parents links (own + 1) ds
 
 -- ---- plans
--- that of all links which count, cycles among them
+-- that of all links which count and of all parents, cycles among them
 abbrev pub counted_plan : NodeData → LinkDriversData → Bool → List PlannedDevice
 counted_plan root set strict =
-    planned_by set.drivers (is_counted (flags set.early (tree_devices root))) (tree_links root set strict) 0 (tree_devices root)
+    planned_by set.drivers (is_counted (flags set.early (tree_devices root))) (tree_parents root) (tree_links root set strict) 0 (tree_devices root)
 
 abbrev pub relaxed_plan : NodeData → LinkDriversData → Bool → List ℕ → List PlannedDevice
 relaxed_plan root set strict components =
-    planned_by set.drivers (is_waited_for (flags set.early (tree_devices root)) components) (tree_links root set strict) 0 (tree_devices root)
+    planned_by set.drivers (is_waited_for (flags set.early (tree_devices root)) components) [] (tree_links root set strict) 0 (tree_devices root)
 
 -- ---- refusals
 -- the first refusal of a tree, as of a plan of it: too many devices, then a `fail` line whose path is no device's

@@ -1,15 +1,16 @@
 -- The links of Linux between the devices of a tree (Linux driver-api, "Device links"): which device each device's properties make
 -- it wait for, and the bus above it (Documentation/devicetree/usage-model).
-use Rattle.std.specs.Prelude.{ℕ, ◌+◌, Bool, true, false, not, ◌&&◌, ◌==◌, nat_eq, nat_lt, if◌then◌else◌, List, [], ◌∷◌, ◌++◌, map, length, slice_index, slice_get, Option, Some, None, option_and_then, codes}
+use Rattle.std.specs.Prelude.{ℕ, ◌+◌, Bool, true, false, not, ◌&&◌, ◌==◌, nat_lt, if◌then◌else◌, List, [], ◌∷◌, ◌++◌, map, slice_index, slice_get, Option, Some, None, is_some, option_and_then}
 use Rattle.std.specs.Option.{option_map_or, option_to_list}
-use Rattle.std.specs.List.{list_any, slice_index_or, starts_with}
+use Rattle.std.specs.List.{list_any, slice_index_or}
 use Rattle.dt_tree.specs.NodeData.{NodeData}
 use Rattle.bus_plan.specs.PlanPaths.{is_among}
 use Rattle.bus_drivers.specs.Nodes.{TreeDevice, tree_devices}
 use Rattle.bus_drivers.specs.TreePlan.{compatible_strings}
 use Rattle.bus_links.specs.LinkDrivers.{LinkDriversData}
 use Rattle.bus_links.specs.Bindings.LinkNodes.{LinkNode, node_at, tree_nodes, device_places}
-use Rattle.bus_links.specs.Bindings.Mentions.{MentionData, FaultData, FoundData, found_at}
+use Rattle.bus_links.specs.Bindings.Endpoints.{found_of}
+use Rattle.bus_links.specs.Bindings.Mentions.{MentionData, FaultData}
 
 -- the consumer waits for the supplier, by this entry of the consumer's property, or because that is the bus above it
 pub record LinkData : Type 0 where
@@ -26,32 +27,23 @@ pub record WarningData : Type 0 where
   pub entry : ℕ
 
 -- ---- by a property
--- a path stands below another
-abbrev pub is_below : List ℕ → List ℕ → Bool
-is_below above path = starts_with nat_eq path above && slice_index path (length above) == 47
-
--- a device supplies another one that isn't above it
-abbrev pub supplies : TreeDevice → ℕ → TreeDevice → ℕ → Bool
-supplies consumer own supplier place = not (place == own) && not (is_below consumer.path supplier.path)
-
--- the device at a place, if it supplies the consumer
-abbrev pub supplier_at : List TreeDevice → TreeDevice → ℕ → ℕ → Option ℕ
-supplier_at devices consumer own place =
-    if option_map_or (λ d. supplies consumer own d place) (slice_get devices place) false then Some place else None
+-- the device at a place, if that isn't the consumer
+abbrev pub supplier_at : List TreeDevice → ℕ → ℕ → Option ℕ
+supplier_at devices own place = if is_some (slice_get devices place) && not (place == own) then Some place else None
 
 -- the device that a node makes the consumer wait for: the nearest at or above the node, where it may be used
-abbrev pub supplier_of : List LinkNode → List TreeDevice → TreeDevice → ℕ → ℕ → Option ℕ
-supplier_of nodes devices consumer own node =
-    if (node_at nodes node).usable then option_and_then (supplier_at devices consumer own) (node_at nodes node).device else None
+abbrev pub supplier_of : List LinkNode → List TreeDevice → ℕ → ℕ → Option ℕ
+supplier_of nodes devices own node =
+    if (node_at nodes node).usable then option_and_then (supplier_at devices own) (node_at nodes node).device else None
 
 -- the links that mentions make
 abbrev pub link_by : ℕ → MentionData → ℕ → LinkData
 link_by own m supplier = record { consumer = own; supplier = supplier; property = m.property; entry = m.entry; is_bus = false }
 
-abbrev pub links_by : List LinkNode → List TreeDevice → TreeDevice → ℕ → List MentionData → List LinkData
-links_by nodes devices consumer own [] = []
-links_by nodes devices consumer own (m ∷ ms) =
-    map (link_by own m) (option_to_list (supplier_of nodes devices consumer own m.node)) ++ links_by nodes devices consumer own ms
+abbrev pub links_by : List LinkNode → List TreeDevice → ℕ → List MentionData → List LinkData
+links_by nodes devices own [] = []
+links_by nodes devices own (m ∷ ms) =
+    map (link_by own m) (option_to_list (supplier_of nodes devices own m.node)) ++ links_by nodes devices own ms
 
 -- ---- the bus above
 -- one of a device's `compatible` strings is among these
@@ -82,14 +74,14 @@ bus_link own bus = record { consumer = own; supplier = bus; property = []; entry
 abbrev pub links_of : List LinkNode → List TreeDevice → List Bool → Bool → TreeDevice → ℕ → ℕ → List LinkData
 links_of nodes devices buses strict d own node =
     if d.available
-    then links_by nodes devices d own (found_at nodes strict node).mentions ++ map (bus_link own) (option_to_list (bus_above nodes buses own node))
+    then links_by nodes devices own (found_of nodes strict own node).mentions ++ map (bus_link own) (option_to_list (bus_above nodes buses own node))
     else []
 
 abbrev pub warned : ℕ → FaultData → WarningData
 warned own f = record { device = own; property = f.property; entry = f.entry }
 
 abbrev pub warnings_of : List LinkNode → Bool → TreeDevice → ℕ → ℕ → List WarningData
-warnings_of nodes strict d own node = if d.available then map (warned own) (found_at nodes strict node).faults else []
+warnings_of nodes strict d own node = if d.available then map (warned own) (found_of nodes strict own node).faults else []
 
 -- ---- of all devices
 -- the place of the node of the device at this place
@@ -111,6 +103,17 @@ warnings_from nodes strict places own (d ∷ ds) =
 abbrev pub tree_links : NodeData → LinkDriversData → Bool → List (List LinkData)
 tree_links root drivers strict =
     links_from (tree_nodes root) (tree_devices root) (flags drivers.buses (tree_devices root)) strict (device_places (tree_nodes root)) 0 (tree_devices root)
+
+-- ---- parents
+-- the device above each of these, of which the first has this place
+abbrev pub parents_from : List LinkNode → List Bool → List ℕ → ℕ → List TreeDevice → List (Option ℕ)
+parents_from nodes buses places own [] = []
+parents_from nodes buses places own (d ∷ ds) = bus_above nodes buses own (node_of places own) ∷ parents_from nodes buses places (own + 1) ds
+
+-- that of each device of a tree, by its root: the bus above, of whatever strings
+abbrev pub tree_parents : NodeData → List (Option ℕ)
+tree_parents root =
+    parents_from (tree_nodes root) (flags [] (tree_devices root)) (device_places (tree_nodes root)) 0 (tree_devices root)
 
 abbrev pub tree_warnings : NodeData → Bool → List WarningData
 tree_warnings root strict = warnings_from (tree_nodes root) strict (device_places (tree_nodes root)) 0 (tree_devices root)

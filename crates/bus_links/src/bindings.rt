@@ -1,6 +1,7 @@
 //! What the properties of a device name, by the bindings of Linux: nodes, entry by entry, interrupts by their controllers.
 
 mod binding;
+mod endpoints;
 mod interrupts;
 mod link_node;
 mod mentions;
@@ -10,6 +11,7 @@ mod nodes;
 mod walk;
 
 pub use binding::{Binding, Listing, Strictness};
+pub use endpoints::Ends;
 pub use link_node::LinkNode;
 pub use mentions::{Fault, Found, Mention};
 pub use nodes::Nodes;

@@ -1,10 +1,10 @@
 //! The bus above a device.
 ghost use Rattle.std.specs.Prelude.{◌≡◌, ◌++◌, IfOk, OnOk};
 ghost use Rattle.bus_links.specs.Bindings.LinkNodes.{own_places, device_places};
-ghost use Rattle.bus_links.specs.Links.{bus_above, is_bus_for};
+ghost use Rattle.bus_links.specs.Links.{bus_above, is_bus_for, node_of, parents_from};
 
 use crate::bindings::{LinkNode, Nodes};
-use bus_drivers::is_compatible;
+use bus_drivers::{TreeDevice, is_compatible};
 use std::alloc::{AllocError, Global};
 
 // Whether the device at a place is the bus of one, whose driver makes that one.
@@ -50,4 +50,32 @@ pub fn device_places(alloc: Global, nodes: &[LinkNode<'_>]) -> Result<Vec<usize>
         add_place(&mut places, node, place)?;
     }
     Ok(places)
+}
+
+/// The place of the node of the device at this place.
+pub fn node_of(places: &[usize], own: usize) -> usize
+    ensures { result ≡ node_of places.now own }
+{
+    if own >= places.len() {
+        return 0;
+    }
+    places[own]
+}
+
+/// The bus above each device, whose nodes stand at these places.
+pub fn parents_of(
+    alloc: Global,
+    nodes: &Nodes<'_>,
+    buses: &[bool],
+    places: &[usize],
+    devices: &[TreeDevice<'_>],
+) -> Result<Vec<Option<usize>>, AllocError>
+    ensures { IfOk result (λ parents. parents.items
+        ≡ parents_from nodes.now buses.now places.now 0 devices.now) }
+{
+    let mut parents = Vec::with_capacity(alloc, devices.len())?;
+    for (own, _device) in devices.iter().enumerate() {
+        parents.push(bus_above(nodes, buses, own, node_of(places, own)))?;
+    }
+    Ok(parents)
 }

@@ -1,61 +1,44 @@
 //! The links of a tree's devices.
-ghost use Rattle.std.specs.Prelude.{◌≡◌, ◌++◌, IfOk, OnOk, map};
+ghost use Rattle.std.specs.Prelude.{◌≡◌, ◌++◌, ◌<◌, ℕ, [], IfOk, OnOk, length, map};
+ghost use Rattle.std.specs.List.{slice_index_or};
 ghost use Rattle.std.specs.Option.{option_to_list};
 ghost use Rattle.bus_links.specs.Bindings.BindingView.{is_strict};
-ghost use Rattle.bus_links.specs.Links.{is_below, supplies, supplier_at, supplier_of, link_by, links_by, bus_above, bus_link, links_of, warned, warnings_of, node_of, links_from, warnings_from};
+ghost use Rattle.bus_links.specs.Bindings.Endpoints.{ends_of};
+ghost use Rattle.bus_links.specs.Links.{supplier_at, supplier_of, link_by, links_by, bus_above, bus_link, links_of, warned, warnings_of, node_of, links_from, warnings_from};
 
-use crate::bindings::{Fault, Found, Mention, Nodes, Strictness};
-use crate::bus_above::bus_above;
+use crate::bindings::{Ends, Fault, Found, Mention, Nodes, Strictness};
+use crate::bus_above::{bus_above, node_of};
 use crate::device_links::DeviceLinks;
 use crate::links::{Link, Warning};
 use bus_drivers::TreeDevice;
 use bus_plan::Device;
 use std::alloc::{AllocError, Global};
 
-/// What links are made of: a tree's nodes, its devices, which of them are buses that Linux makes the devices of by itself, and
-/// whether optional bindings count.
+/// What links are made of: a tree's nodes, the endpoints of its devices, the devices, which of them are buses that Linux makes the
+/// devices of by itself, and whether optional bindings count.
 #[derive(Clone, Copy)]
 pub struct Linker<'l, 't> {
     pub nodes: &'l Nodes<'t>,
+    pub ends: &'l Ends,
     pub devices: &'l [TreeDevice<'t>],
     pub buses: &'l [bool],
     pub strictness: Strictness,
 }
 
-// Whether a path stands below another.
-fn is_below(above: &[u8], path: &[u8]) -> bool
-    ensures { result ≡ is_below above.now path.now }
-{
-    if path.len() <= above.len() {
-        return false;
-    }
-    path.starts_with(above) && path[above.len()] == b'/'
-}
-
-// Whether a device supplies another one that isn't above it.
-fn supplies(consumer: &TreeDevice<'_>, own: usize, supplier: &TreeDevice<'_>, place: usize) -> bool
-    ensures { result ≡ supplies consumer.now own supplier.now place }
-{
-    place != own && !is_below(consumer.path().as_bytes(), supplier.path().as_bytes())
-}
-
 impl<'l, 't> Linker<'l, 't> {
-    // The device at a place, if it supplies the consumer.
-    fn supplier_at(&self, consumer: &TreeDevice<'t>, own: usize, place: usize) -> Option<usize>
-        ensures { result ≡ supplier_at self.now.devices.now consumer.now own place }
+    // The device at a place, if that isn't the consumer.
+    fn supplier_at(&self, own: usize, place: usize) -> Option<usize>
+        ensures { result ≡ supplier_at self.now.devices.now own place }
     {
-        if place >= self.devices.len() {
-            return None;
-        }
-        if !supplies(consumer, own, &self.devices[place], place) {
+        if place >= self.devices.len() || place == own {
             return None;
         }
         Some(place)
     }
 
     // The device that a node makes the consumer wait for.
-    fn supplier_of(&self, consumer: &TreeDevice<'t>, own: usize, node: usize) -> Option<usize>
-        ensures { result ≡ supplier_of self.now.nodes.now self.now.devices.now consumer.now own node }
+    fn supplier_of(&self, own: usize, node: usize) -> Option<usize>
+        ensures { result ≡ supplier_of self.now.nodes.now self.now.devices.now own node }
     {
         if !self.nodes.usable(node) {
             return None;
@@ -63,21 +46,20 @@ impl<'l, 't> Linker<'l, 't> {
         let Some(place) = self.nodes.device(node) else {
             return None;
         };
-        self.supplier_at(consumer, own, place)
+        self.supplier_at(own, place)
     }
 
     // Adds the link that a mention makes, if it makes one.
     fn add_link(
         &self,
         links: &mut Vec<Link<'t>>,
-        consumer: &TreeDevice<'t>,
         own: usize,
         mention: &Mention<'t>,
     ) -> Result<(), AllocError>
         ensures { OnOk result (links.new.items ≡ links.old.items ++ map (link_by own mention.now)
-            (option_to_list (supplier_of self.now.nodes.now self.now.devices.now consumer.now own mention.now.node))) }
+            (option_to_list (supplier_of self.now.nodes.now self.now.devices.now own mention.now.node))) }
     {
-        let Some(supplier) = self.supplier_of(consumer, own, mention.node) else {
+        let Some(supplier) = self.supplier_of(own, mention.node) else {
             return Ok(());
         };
         let (own, supplier) = (Device::new(own), Device::new(supplier));
@@ -88,15 +70,14 @@ impl<'l, 't> Linker<'l, 't> {
     fn add_links(
         &self,
         links: &mut Vec<Link<'t>>,
-        consumer: &TreeDevice<'t>,
         own: usize,
         mentions: &[Mention<'t>],
     ) -> Result<(), AllocError>
         ensures { OnOk result (links.new.items ≡ links.old.items
-            ++ links_by self.now.nodes.now self.now.devices.now consumer.now own mentions.now) }
+            ++ links_by self.now.nodes.now self.now.devices.now own mentions.now) }
     {
         for mention in mentions {
-            self.add_link(links, consumer, own, mention)?;
+            self.add_link(links, own, mention)?;
         }
         Ok(())
     }
@@ -117,17 +98,16 @@ impl<'l, 't> Linker<'l, 't> {
     fn links_by(
         &self,
         alloc: Global,
-        consumer: &TreeDevice<'t>,
         own: usize,
         node: usize,
         found: &Found<'t>,
     ) -> Result<DeviceLinks<'t>, AllocError>
         ensures { IfOk result (λ links. links
-            ≡ links_by self.now.nodes.now self.now.devices.now consumer.now own found.now.mentions
+            ≡ links_by self.now.nodes.now self.now.devices.now own found.now.mentions
             ++ map (bus_link own) (option_to_list (bus_above self.now.nodes.now self.now.buses.now own node))) }
     {
         let mut links = Vec::new(alloc);
-        self.add_links(&mut links, consumer, own, found.mentions())?;
+        self.add_links(&mut links, own, found.mentions())?;
         self.add_bus(&mut links, own, node)?;
         Ok(DeviceLinks::new(links))
     }
@@ -141,6 +121,7 @@ impl<'l, 't> Linker<'l, 't> {
         own: usize,
         node: usize,
     ) -> Result<DeviceLinks<'t>, AllocError>
+        requires { slice_index_or self.now.ends.now own [] ≡ ends_of self.now.nodes.now own }
         ensures links { IfOk result (λ links. links ≡ links_of self.now.nodes.now self.now.devices.now self.now.buses.now
             (is_strict self.now.strictness) consumer.now own node) }
         ensures warnings { OnOk result (warnings.new.items ≡ warnings.old.items
@@ -149,9 +130,10 @@ impl<'l, 't> Linker<'l, 't> {
         if !consumer.available() {
             return Ok(DeviceLinks::new(Vec::new(alloc)));
         }
-        let found = Found::at(alloc, self.nodes, self.strictness, node)?;
+        let ends = self.ends.at(own);
+        let found = Found::of_device(alloc, self.nodes, self.strictness, ends, node)?;
         add_warnings(warnings, own, found.faults())?;
-        self.links_by(alloc, consumer, own, node, &found)
+        self.links_by(alloc, own, node, &found)
     }
 
     /// The links of each device, and what is warned of. `places` are the devices' nodes.
@@ -161,6 +143,8 @@ impl<'l, 't> Linker<'l, 't> {
         warnings: &mut Vec<Warning<'t>>,
         places: &[usize],
     ) -> Result<Vec<DeviceLinks<'t>>, AllocError>
+        requires { (d : ℕ) → d < length self.now.devices.now
+            → slice_index_or self.now.ends.now d [] ≡ ends_of self.now.nodes.now d }
         ensures links { IfOk result (λ links. links.items
             ≡ links_from self.now.nodes.now self.now.devices.now self.now.buses.now
             (is_strict self.now.strictness) places.now 0 self.now.devices.now) }
@@ -174,16 +158,6 @@ impl<'l, 't> Linker<'l, 't> {
         }
         Ok(links)
     }
-}
-
-// The place of the node of the device at this place.
-fn node_of(places: &[usize], own: usize) -> usize
-    ensures { result ≡ node_of places.now own }
-{
-    if own >= places.len() {
-        return 0;
-    }
-    places[own]
 }
 
 fn add_warnings<'t>(

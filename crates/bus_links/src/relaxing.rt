@@ -1,9 +1,10 @@
 //! Which links are waited for: all but those to early devices and those that lie in a cycle.
 ghost use Rattle.std.specs.Prelude.{◌≡◌, IfOk, OnOk, map, filter};
+ghost use Rattle.std.specs.Option.{option_to_list};
 ghost use Rattle.bus_drivers.specs.TreePlan.{planned_device};
 ghost use Rattle.bus_drivers.specs.Private.Suppliers.{with_mentions};
 ghost use Rattle.bus_plan.specs.Reach.Components.{component_of};
-ghost use Rattle.bus_links.specs.LinkPlan.{is_relaxed, suppliers_by, links_at, planned_by};
+ghost use Rattle.bus_links.specs.LinkPlan.{is_relaxed, suppliers_by, links_at, parent_at, planned_by};
 ghost use Rattle.bus_links.specs.Private.Counting.{passes};
 
 use crate::device_links::DeviceLinks;
@@ -74,6 +75,15 @@ fn add_suppliers(
     Ok(())
 }
 
+fn add_parent(suppliers: &mut Suppliers, parent: Option<usize>) -> Result<(), AllocError>
+    ensures { OnOk result (suppliers.new ≡ with_mentions suppliers.old (option_to_list parent)) }
+{
+    match parent {
+        None => Ok(()),
+        Some(parent) => suppliers.add(Device::new(parent)),
+    }
+}
+
 // The suppliers of the device at this place.
 fn suppliers_by(
     alloc: Global,
@@ -82,12 +92,15 @@ fn suppliers_by(
     counting: &Counting<'_>,
     own: usize,
     links: &[Link<'_>],
+    parent: Option<usize>,
 ) -> Result<Vec<Device>, AllocError>
-    ensures { IfOk result (λ suppliers. suppliers.items ≡ suppliers_by (passes early.now counting.now) own links.now) }
+    ensures { IfOk result (λ suppliers. suppliers.items
+        ≡ suppliers_by (passes early.now counting.now) own links.now parent) }
 {
     let device = Device::new(own);
     let mut suppliers = Suppliers::new(alloc, hasher, device);
     add_suppliers(&mut suppliers, early, counting, links)?;
+    add_parent(&mut suppliers, parent)?;
     Ok(suppliers.devices(alloc)?)
 }
 
@@ -101,7 +114,17 @@ fn links_at<'l, 't>(links: &'l [DeviceLinks<'t>], own: usize) -> &'l [Link<'t>]
     links[own].as_slice()
 }
 
-// A device with its driver and the suppliers of its links that count.
+// The parent of the device at a place.
+fn parent_at(parents: &[Option<usize>], own: usize) -> Option<usize>
+    ensures { result ≡ parent_at parents.now own }
+{
+    if own >= parents.len() {
+        return None;
+    }
+    parents[own]
+}
+
+// A device with its driver, the suppliers of its links that count, and its parent.
 fn planned_device(
     alloc: Global,
     hasher: RandomState,
@@ -109,34 +132,36 @@ fn planned_device(
     early: &[bool],
     counting: &Counting<'_>,
     links: &[Link<'_>],
+    parent: Option<usize>,
     own: usize,
     device: &TreeDevice<'_>,
 ) -> Result<Planned, AllocError>
     ensures { IfOk result (λ planned. planned ≡ planned_device matcher.now device.now
-        (suppliers_by (passes early.now counting.now) own links.now)) }
+        (suppliers_by (passes early.now counting.now) own links.now parent)) }
 {
-    let suppliers = suppliers_by(alloc, hasher, early, counting, own, links)?;
+    let suppliers = suppliers_by(alloc, hasher, early, counting, own, links, parent)?;
     matcher.planned(alloc, device, suppliers)
 }
 
-/// The devices, each with the suppliers of its links that count.
+/// The devices, each with the suppliers of its links that count, and its parent.
 pub fn planned_devices(
     alloc: Global,
     hasher: RandomState,
     matcher: &Matcher<'_>,
     devices: &[TreeDevice<'_>],
     links: &[DeviceLinks<'_>],
+    parents: &[Option<usize>],
     early: &[bool],
     counting: &Counting<'_>,
 ) -> Result<Vec<Planned>, AllocError>
     ensures { IfOk result (λ planned. planned.items
-        ≡ planned_by matcher.now (passes early.now counting.now) links.now 0 devices.now) }
+        ≡ planned_by matcher.now (passes early.now counting.now) parents.now links.now 0 devices.now) }
 {
     let mut planned = Vec::with_capacity(alloc, devices.len())?;
     for (own, device) in devices.iter().enumerate() {
-        let own_links = links_at(links, own);
+        let (own_links, parent) = (links_at(links, own), parent_at(parents, own));
         planned.push(planned_device(
-            alloc, hasher, matcher, early, counting, own_links, own, device,
+            alloc, hasher, matcher, early, counting, own_links, parent, own, device,
         )?)?;
     }
     Ok(planned)

@@ -1,7 +1,7 @@
 //! The worked rows of the bus, as tables: what a row gives is what the definitions say of it, worked by hand.
 //!
-//! The tests stand here, above the crates of the bus, so that no crate is proved a second time for them. Rooms: `plan`, plans, drivers
-//! and boards; `links`, plans by the links of Linux; `why`, why devices wait, and what Linux says of its modules and boots.
+//! The tests stand here, above the crates of the bus, so that no crate is proved a second time for them. A room apart is `plan`: plans,
+//! drivers and boards.
 #![tactic(auto)]
 
 #[cfg(test)]
@@ -16,8 +16,6 @@ mod keepers;
 #[cfg(test)]
 mod late;
 #[cfg(test)]
-mod links;
-#[cfg(test)]
 mod plan;
 #[cfg(test)]
 mod registrations;
@@ -28,5 +26,3 @@ pub mod shapes;
 #[cfg(test)]
 mod told;
 pub mod watching;
-#[cfg(test)]
-mod why;

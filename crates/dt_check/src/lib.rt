@@ -57,5 +57,5 @@ pub use reg::{is_multiple, reg_fault};
 pub use style::{default_fault, unnecessary_fault};
 pub use survey::Survey;
 pub use texts::{cell_fault, is_same, string_fault, string_list_fault};
-pub use unit::{is_hex_of, unit_address};
+pub use unit::{base_name, is_hex_of, unit_address};
 pub use unit_rules::{hex_fault, unit_fault, zero_fault};

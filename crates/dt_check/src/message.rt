@@ -1,7 +1,7 @@
 //! What is wrong, as data: what was found and what was wanted.
 
 /// What a finding says. Lengths are in bytes, counts of cells in cells of 4 bytes; a node is named by its place in the survey.
-#[derive(Clone, Copy, Debug, PartialEq, Eq)]
+#[derive(Clone, Copy)]
 pub enum Message {
     /// A prerequisite of the check didn't pass: the check at this place of the table.
     Prerequisite(usize),

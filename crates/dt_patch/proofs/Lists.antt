@@ -1,7 +1,8 @@
 -- A blob whose reserved memory has other pairs.
-use Rattle.std.proofs.Common.{◌≡◌, ℕ, ◌+◌, ◌-◌, ◌*◌, ◌%◌, ◌^◌, ◌<◌, ◌≤◌, max, true, false, ◌&&◌, ◌==◌, List, [], ◌∷◌, ◌++◌, length, take, drop, Option, Some, None, refl, ap, sym, subst, ◌∙◌, arith, append_assoc, length-append, length-drop}
+use Rattle.std.proofs.Common.{◌≡◌, ℕ, ◌+◌, ◌-◌, ◌*◌, ◌%◌, ◌^◌, ◌<◌, ◌≤◌, max, Bool, true, false, not, ◌&&◌, ◌==◌, List, [], ◌∷◌, ◌++◌, length, take, drop, Option, Some, None, refl, ap, sym, subst, ◌∙◌, arith, append_assoc, length-append, length-drop}
 use Rattle.std.specs.Prelude.{nat_le, nat_lt}
 use Rattle.std.specs.List.{list_all}
+use Rattle.std.proofs.Math.Bool.{and-false}
 use Rattle.std.specs.Option.{option_map_or}
 use Rattle.std.proofs.lemmas.List.{append-nil, drop_all, drop_at, length-take, take_at}
 use Rattle.dt_tree.specs.TreeData.{TreeData, AreLong, IsTree, is_reserve}
@@ -377,14 +378,14 @@ held_removed bytes l il index gap final g ls relaid tree h less =
 
 -- ---- refusals
 
-pub is_end : (pair : ℕ × ℕ) → (pair.0 == 0 && pair.1 == 0) ≡ true → pair_fault pair ≡ Some EndPair
+pub is_end : (pair : ℕ × ℕ) → (pair.1 == 0) ≡ true → pair_fault pair ≡ Some EndPair
 is_end pair e = rw e refl
 
-pub not_end : (pair : ℕ × ℕ) → (pair.0 == 0 && pair.1 == 0) ≡ false → pair_fault pair ≡ None
+pub not_end : (pair : ℕ × ℕ) → (pair.1 == 0) ≡ false → pair_fault pair ≡ None
 not_end pair e = rw e refl
 
-pub is_pair : (pair : ℕ × ℕ) → (pair.0 == 0 && pair.1 == 0) ≡ false → is_reserve pair ≡ true
-is_pair pair e = rw e refl
+pub is_pair : (pair : ℕ × ℕ) → (pair.1 == 0) ≡ false → is_reserve pair ≡ true
+is_pair pair e = ap not (ap (λ (t : Bool). pair.0 == 0 && t) e ∙ and-false (pair.0 == 0))
 
 -- so many bytes are wanted for a pair more
 pub pairs_wanted_as : (bytes : List ℕ) (l : ReserveList) (il : IsList bytes l) (place : ℕ) → pairs_wanted l (record { at = place; next = place }) 16 ≡ wanted_to_reserve bytes

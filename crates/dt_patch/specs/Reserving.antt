@@ -1,6 +1,6 @@
 -- What a reservation added to a blob, or taken from it, makes of it: Devicetree Specification v0.4, section 5.3. All else is as it was.
-use Rattle.std.specs.Prelude.{ℕ, ◌+◌, nat_lt, List, [], ◌∷◌, ◌++◌, length, take, drop, Option, Some, None, if◌then◌else◌}
-use Rattle.dt_tree.specs.TreeData.{TreeData, is_reserve, tree_data}
+use Rattle.std.specs.Prelude.{ℕ, ◌+◌, ◌==◌, nat_lt, List, [], ◌∷◌, ◌++◌, length, take, drop, Option, Some, None, if◌then◌else◌}
+use Rattle.dt_tree.specs.TreeData.{TreeData, tree_data}
 use Rattle.dt_patch.specs.View.Reserved.{reserved_size}
 use Rattle.dt_patch.specs.declared.error.PatchError.{PatchError}
 use Rattle.dt_patch.specs.declared.error.PatchError.TheVariants.{EndPair, NoReservation, Unordered}
@@ -13,9 +13,9 @@ use Rattle.dt_patch.specs.Setting.{or_short, or_unordered, used_size}
 abbrev pub with_reservation : ℕ × ℕ → TreeData → TreeData
 with_reservation pair tree = tree_data (tree.reserves ++ pair ∷ []) tree.boot_cpu tree.root
 
--- an address and a size of zero end the list, so they are none of it
+-- a size of zero reserves nothing, and ends the list for readers that look at sizes alone
 abbrev pub pair_fault : ℕ × ℕ → Option PatchError
-pair_fault pair = if is_reserve pair then None else Some EndPair
+pair_fault pair = if pair.1 == 0 then Some EndPair else None
 
 -- how many bytes are wanted: an address and a size have 16
 abbrev pub wanted_to_reserve : List ℕ → ℕ

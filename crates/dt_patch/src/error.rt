@@ -26,7 +26,7 @@ pub enum PatchError {
     Exists,
     /// The node stands at the greatest depth that a node can have.
     TooDeep,
-    /// The address and the size are both zero, as those that end the list of reserved memory.
+    /// The size is zero: readers that look at sizes alone end the list of reserved memory there.
     EndPair,
     /// No reservation has the place.
     NoReservation,

@@ -1,5 +1,5 @@
 //! Reserved memory, added to a blob or taken from it.
-ghost use Rattle.std.specs.Prelude.{◌≡◌, ◌+◌, ◌<◌, ◌&&◌, ◌==◌, IfOk, MatchResult, None, Some, OnErr, OnOk, false, length, true};
+ghost use Rattle.std.specs.Prelude.{◌≡◌, ◌+◌, ◌<◌, ◌==◌, IfOk, MatchResult, None, Some, OnErr, OnOk, false, length, true};
 ghost use Rattle.dt_tree.specs.TreeData.{TreeData};
 ghost use Rattle.dt_blob.specs.Holds.{Holds};
 ghost use Rattle.dt_patch.specs.View.Reserved.{reserved_size};
@@ -75,18 +75,19 @@ fn gap_in(list: &ReserveList, part: Span, size: usize, room: usize) -> Result<Ga
     })
 }
 
-/// Whether an address and a size end the list.
-fn ends_list(address: u64, size: u64) -> bool
-    ensures { result ≡ (address == 0 && size == 0) }
+/// Whether a size ends the list for readers that look at sizes alone, as libfdt does.
+fn ends_list(size: u64) -> bool
+    ensures { result ≡ (size == 0) }
 {
-    address == 0 && size == 0
+    size == 0
 }
 
 /// Adds an address and a size to the reserved memory, behind those that are there, in the caller's buffer. All else of the tree that the
 /// blob holds is as it was (Devicetree Specification v0.4, section 5.3). The buffer may have room behind the blob; what stands behind the
 /// last reservation is moved once.
 ///
-/// Fails with `Blob`, the header's first fault, or with `EndPair`, `Unordered` or `Short`, the first of these; the blob is then as it was.
+/// Fails with `Blob`, the header's first fault, or with `EndPair` (a size of 0), `Unordered` or `Short`, the first of these; the blob is
+/// then as it was.
 /// `Short` tells how many bytes the buffer wants. Bytes that hold no tree are changed somehow, or refused so.
 pub fn add_reservation(blob: &mut [u8], address: u64, size: u64) -> Result<(), PatchError>
     // A tree that was held is held with the reservation.
@@ -99,7 +100,7 @@ pub fn add_reservation(blob: &mut [u8], address: u64, size: u64) -> Result<(), P
     ensures refused { OnErr result (blob.new ≡ blob.old) }
     ensures size { length blob.new ≡ length blob.old }
 {
-    if ends_list(address, size) {
+    if ends_list(size) {
         return Err(PatchError::EndPair);
     }
     let list = list_of(blob)?;

@@ -6,5 +6,6 @@
 #![tactic(auto)]
 
 pub mod include;
+pub mod preprocess;
 pub mod source;
 pub mod tree;

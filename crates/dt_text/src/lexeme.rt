@@ -5,7 +5,7 @@
 mod binary;
 pub mod bytes;
 mod context;
-mod families;
+pub(crate) mod families;
 pub mod fronts;
 pub mod gaps;
 mod language;

@@ -13,6 +13,7 @@ pub mod NodeView
 pub mod Path
 pub mod PathMap
 pub mod Phandle
+pub mod PhandleProperties
 pub mod Preorder
 pub mod Private
 pub mod Sort

@@ -1,7 +1,7 @@
 //! Devicetrees: names, paths, nodes and trees.
 //!
 //! The names, the depth of nodes and the properties follow the Devicetree Specification v0.4, chapter 2. Rooms: `key`, names as keys
-//! of maps; `sort`, a tree in order of its names; `written_paths`, paths in the tables that traces keep.
+//! of maps; `phandle_properties`, the properties that hold phandles; `sort`, a tree in order of its names; `written_paths`, paths in the tables that traces keep.
 #![tactic(auto)]
 
 mod bytes;
@@ -17,6 +17,7 @@ mod name;
 mod node;
 mod path;
 mod phandle;
+pub mod phandle_properties;
 mod property;
 mod reserved;
 mod slices;

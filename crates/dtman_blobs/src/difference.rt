@@ -3,14 +3,14 @@
 mod by_name;
 mod comparing;
 mod difference;
+mod form;
 mod naming;
 mod ordering;
 mod parts;
-mod reference_table;
 
 pub use comparing::{Comparison, compare, is_own_phandle};
 pub use difference::{Difference, Side, Thing};
+pub use form::Form;
 pub use naming::{Named, Naming};
 pub use ordering::{Kind, Reordered, compare_order};
 pub use parts::{Part, Seen, are_same};
-pub use reference_table::Form;

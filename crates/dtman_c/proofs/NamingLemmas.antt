@@ -2,7 +2,7 @@
 use Rattle.std.proofs.Common.{◌≡◌, ◌≤◌, refl, subst, ℕ, Bool, true, List, [], ◌∷◌, Option, Some, None, nat_lt, arith}
 use Rattle.std.specs.List.{flat_map, list_all}
 use Rattle.std.proofs.lemmas.Grind.{common_steps}
-use Rattle.dtman_engine.specs.Explain.{name_in, name_for, memory_faults, source_faults, build_faults, blob_faults, overlay_faults, text_faults, event_faults, run_faults, file_faults}
+use Rattle.dtman_engine.specs.Explain.{name_in, name_for, memory_faults, source_faults, build_faults, blob_faults, overlay_faults, text_faults, event_faults, run_faults, file_faults, preprocess_faults}
 use Rattle.dtman_engine.specs.Fault.{FaultValue}
 use Rattle.dtman_c.specs.declared.answer.Answer.{Answer}
 use Rattle.dtman_c.specs.Crossing.{IsPut, unnamed}
@@ -23,4 +23,4 @@ none_past [] number all past = refl
 none_past (fault ∷ faults) number all past = grind (arith, common_steps, all, past, none_past faults number)
 
 pub unnamed_past : (number : ℕ) → 256 ≤ number → name_for number ≡ None
-unnamed_past number past = none_past (flat_map (λ (faults : List FaultValue). faults) (memory_faults ∷ source_faults ∷ build_faults ∷ blob_faults ∷ overlay_faults ∷ text_faults ∷ event_faults ∷ run_faults ∷ file_faults ∷ [])) number refl past
+unnamed_past number past = none_past (flat_map (λ (faults : List FaultValue). faults) (memory_faults ∷ source_faults ∷ build_faults ∷ blob_faults ∷ overlay_faults ∷ text_faults ∷ event_faults ∷ run_faults ∷ file_faults ∷ preprocess_faults ∷ [])) number refl past

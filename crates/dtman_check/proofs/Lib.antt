@@ -1,6 +1,7 @@
 pub mod ClassLemmas
 pub mod FoundLemmas
 pub mod OrderLemmas
+pub mod OwnNamesLemmas
 pub mod RowLemmas
 pub mod UnitsLemmas
 pub mod UnknownLemmas

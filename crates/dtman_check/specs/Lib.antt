@@ -1,3 +1,4 @@
 pub mod Answers
+pub mod OwnNames
 pub mod Sources
 pub mod Table

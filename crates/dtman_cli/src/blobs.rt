@@ -1,45 +1,90 @@
 //! Commands that make blobs, or read them: `compile`, `overlay`, `dump`.
 
-use crate::compiling::{Made, Manner, dtc_made, profile_blob};
-use crate::diagnosing::{Inputs, file_of};
-use crate::failure::Failure;
-use crate::host::Host;
 use crate::labelling::labelled_bytes;
 use crate::performing::Answer;
-use crate::subcommand::Language;
-use crate::surroundings::Surroundings;
+use crate::preprocessing::prepared;
 use dtman_engine::{dump_bytes, overlay_bytes};
+use dtman_host::{
+    Failure, Given, Host, Inputs, Made, Manner, Surroundings, dtc_made, file_of, profile_blob,
+};
+use dtman_words::{Language, Preprocessing};
 
-/// The blob of a source.
+/// How a source is to be compiled, and where its blob is to stand.
+#[derive(Drop)]
+pub struct Compiling<'a> {
+    pub out: &'a str,
+    pub symbols: bool,
+    pub language: Language<'a>,
+    pub preprocessing: Preprocessing<'a>,
+}
+
+/// The blob of a source, which goes through the preprocessor first where that is wanted.
 pub fn compiled<'a, S: Surroundings, E: Eprint, T>(
     host: &mut Host<'_, S, E, T>,
     source: &'a str,
-    out: &'a str,
-    symbols: bool,
-    language: &Language<'_>,
+    asked: &Compiling<'a>,
 ) -> Result<Answer<'a>, Failure<'a>> {
     let text = host.source(source)?;
+    let path = asked.out;
+    let bytes = match prepared(host, source, text.as_slice(), &asked.preprocessing)? {
+        Some(prepared) => preprocessed_blob(host, asked, file_of(source, &prepared))?,
+        None => blob_in(host, asked, file_of(source, &text))?,
+    };
+    Ok(Answer::File { path, bytes })
+}
+
+// The blob of a source that was preprocessed, which is in dtc's language.
+fn preprocessed_blob<'a, S: Surroundings, E: Eprint, T>(
+    host: &mut Host<'_, S, E, T>,
+    asked: &Compiling<'_>,
+    text: Given<'_>,
+) -> Result<Vec<u8>, Failure<'a>> {
+    match &asked.language {
+        Language::Profile => dtc_blob(host, asked.symbols, &[], text),
+        Language::Dtc { folders } => dtc_blob(host, asked.symbols, folders.as_slice(), text),
+    }
+}
+
+// The blob of a source in the language that is asked for.
+fn blob_in<'a, S: Surroundings, E: Eprint, T>(
+    host: &mut Host<'_, S, E, T>,
+    asked: &Compiling<'_>,
+    text: Given<'_>,
+) -> Result<Vec<u8>, Failure<'a>> {
+    match &asked.language {
+        Language::Profile => {
+            let hasher = host.seed()?;
+            let manner = Manner {
+                symbols: asked.symbols,
+                detail: host.detail,
+            };
+            profile_blob(host.alloc, hasher, text, manner)
+        }
+        Language::Dtc { folders } => dtc_blob(host, asked.symbols, folders.as_slice(), text),
+    }
+}
+
+// The blob of a source in dtc's language.
+fn dtc_blob<'a, S: Surroundings, E: Eprint, T>(
+    host: &mut Host<'_, S, E, T>,
+    symbols: bool,
+    folders: &[&str],
+    text: Given<'_>,
+) -> Result<Vec<u8>, Failure<'a>> {
     let hasher = host.seed()?;
-    let text = file_of(source, &text);
     let manner = Manner {
         symbols,
         detail: host.detail,
     };
-    let bytes = match language {
-        Language::Profile => profile_blob(host.alloc, hasher, text, manner)?,
-        Language::Dtc { folders } => {
-            let Made { compiled, .. } = dtc_made(
-                host.alloc,
-                hasher,
-                host.surroundings,
-                folders.as_slice(),
-                text,
-                manner,
-            )?;
-            compiled.blob
-        }
-    };
-    Ok(Answer::File { path: out, bytes })
+    let Made { compiled, .. } = dtc_made(
+        host.alloc,
+        hasher,
+        host.surroundings,
+        folders,
+        text,
+        manner,
+    )?;
+    Ok(compiled.blob)
 }
 
 /// The blob of a base with an overlay applied.

@@ -1,12 +1,9 @@
 //! Commands about what Linux says of itself and of its boots: `drivers`, `trace`, `replay`.
 
-use crate::diagnosing::{Given, Inputs, file_of};
-use crate::failure::Failure;
-use crate::host::Host;
 use crate::performing::Answer;
-use crate::surroundings::Surroundings;
 use bus_manager::TableProber;
 use dtman_engine::{Fault, replay_bytes, replay_run_bytes};
+use dtman_host::{Failure, Given, Host, Inputs, Surroundings, file_of};
 use dtman_why::{Boot, Installed, boot_bytes, installed_drivers};
 use std::alloc::Global;
 use std::hash::RandomState;
@@ -17,11 +14,20 @@ pub fn drivers_made<'a, S: Surroundings, E: Eprint, T>(
     host: &mut Host<'_, S, E, T>,
     aliases: &'a str,
     builtin: Option<&'a str>,
+    kernel: Option<&'a str>,
 ) -> Result<Answer<'a>, Failure<'a>> {
     let aliases = host.text(aliases)?;
     let builtin = host.text_of(builtin)?;
+    let image = host.image_of(kernel)?;
     let hasher = host.seed()?;
-    match installed_drivers(host.alloc, hasher, aliases.as_slice(), builtin.as_slice()) {
+    let image = image.as_ref().map(|image| image.as_slice());
+    match installed_drivers(
+        host.alloc,
+        hasher,
+        aliases.as_slice(),
+        builtin.as_slice(),
+        image,
+    ) {
         Ok(Installed { drivers, warnings }) => {
             host.warn(warnings.as_slice());
             Ok(Answer::Text(drivers))

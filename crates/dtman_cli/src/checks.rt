@@ -1,23 +1,21 @@
 //! The mistakes in sources and blobs: `check`.
 
-use crate::compiling::{Board, Made, Manner, dtc_made};
-use crate::detail::Detail;
-use crate::diagnosing::{Given, Inputs, file_of};
-use crate::dtc::{Format, format_of};
-use crate::failure::Failure;
-use crate::files::named;
-use crate::host::Host;
-use crate::near::no_such;
+use crate::failing::tell_failure;
 use crate::performing::Answer;
-use crate::subcommand::Inspection;
-use crate::surroundings::Surroundings;
+use crate::preprocessing::prepared;
 use bus_plan::PlanError;
 use dt_blob::BlobError;
 use dtman_check::table::{BadReference, CHECK_COUNT, Kind, Reference, Selection, check_at};
-use dtman_check::{Answer as Checked, Asked, Learned, Shape, Source, check_blob, check_tree};
+use dtman_check::{Asked, Learned, Shape};
+use dtman_dtc::judged;
 use dtman_engine::Fault;
+use dtman_host::{
+    Board, DONE, Detail, Failure, Given, Host, Inputs, Made, Manner, REFUSED, Surroundings,
+    dtc_made, file_of, named, no_such,
+};
+use dtman_words::Inspection;
+use dtman_words::dtc_options::{Format, format_of};
 use std::alloc::{AllocError, Global};
-use std::hash::RandomState;
 
 /// The check that goes by what is known of boards.
 const UNKNOWN_PROPERTY: &str = "unknown_property";
@@ -47,7 +45,14 @@ pub fn checked<'a, S: Surroundings, E: Eprint, T>(
 #[derive(Drop)]
 struct Lines {
     text: Vec<u8>,
-    failed: bool,
+    /// The greatest exit status that was met.
+    status: u8,
+}
+
+impl Lines {
+    fn meet(&mut self, status: u8) {
+        self.status = self.status.max(status);
+    }
 }
 
 fn told_of_all<'a, S: Surroundings, E: Eprint, T>(
@@ -58,16 +63,58 @@ fn told_of_all<'a, S: Surroundings, E: Eprint, T>(
 ) -> Result<Answer<'a>, Failure<'a>> {
     let mut lines = Lines {
         text: Vec::new(host.alloc),
-        failed: false,
+        status: DONE,
     };
     for path in &inspection.inputs {
-        let subject = taken(host, inspection, *path)?;
-        tell(host, inspection, selection, reference, &subject, &mut lines)?;
+        if let Err(failure) = tell(host, inspection, selection, reference, *path, &mut lines) {
+            let status = gone_on(host, inspection, *path, failure)?;
+            lines.meet(status);
+        }
     }
-    if lines.failed {
-        return Ok(Answer::Failing(lines.text));
+    let Lines { text, status } = lines;
+    Ok(match status {
+        DONE => Answer::Text(text),
+        status => Answer::Failing { text, status },
+    })
+}
+
+// Behind an input that is refused the others are checked, where there are any and memory isn't wanted: its failure is told with its path.
+fn gone_on<'a, S: Surroundings, E: Eprint, T>(
+    host: &mut Host<'_, S, E, T>,
+    inspection: &Inspection<'a>,
+    path: &'a str,
+    failure: Failure<'a>,
+) -> Result<u8, Failure<'a>> {
+    if inspection.inputs.len() < 2 || wants_memory(&failure) {
+        return Err(failure);
     }
-    Ok(Answer::Text(lines.text))
+    let failure = with_path(host.alloc, host.detail, failure, path);
+    Ok(tell_failure(host, failure))
+}
+
+fn wants_memory(failure: &Failure<'_>) -> bool {
+    match failure {
+        Failure::Refused(fault) => fault.number == 0,
+        _ => false,
+    }
+}
+
+// A refusal that has one line, with the path that it is of.
+fn with_path<'a>(alloc: Global, detail: Detail, failure: Failure<'a>, path: &str) -> Failure<'a> {
+    match failure {
+        Failure::Refused(fault) => of_path(alloc, detail, fault, path),
+        failure => failure,
+    }
+}
+
+fn of_path<'a>(alloc: Global, detail: Detail, fault: Fault, path: &str) -> Failure<'a> {
+    if detail != Detail::Line {
+        return Failure::Refused(fault);
+    }
+    match format!(in alloc; "{fault} {path}\n") {
+        Ok(line) => Failure::Told(line),
+        Err(_) => Failure::Refused(fault),
+    }
 }
 
 // Adds the lines of an input.
@@ -76,9 +123,10 @@ fn tell<'a, S: Surroundings, E: Eprint, T>(
     inspection: &Inspection<'a>,
     selection: &Selection,
     reference: &Reference<'_>,
-    subject: &Subject<'a>,
+    path: &'a str,
     lines: &mut Lines,
 ) -> Result<(), Failure<'a>> {
+    let subject = taken(host, inspection, path)?;
     let hasher = host.seed()?;
     let asked = Asked::of(named(subject.path).as_bytes(), reference).shaped(
         shape_of(host.detail, inspection),
@@ -86,31 +134,12 @@ fn tell<'a, S: Surroundings, E: Eprint, T>(
     );
     match judged(host.alloc, hasher, &subject.given, selection, asked) {
         Ok(answer) => {
-            lines.failed = lines.failed || answer.failed;
+            if answer.failed {
+                lines.meet(REFUSED);
+            }
             add(&mut lines.text, answer.text.as_slice())
         }
-        Err(error) => Err(no_blob(host, subject, error)),
-    }
-}
-
-/// What the checks of a board tell: of a source by its tree and its places, else of a blob.
-pub fn judged(
-    alloc: Global,
-    hasher: RandomState,
-    given: &Board,
-    selection: &Selection,
-    asked: Asked<'_>,
-) -> Result<Checked, BlobError> {
-    match given {
-        Board::Blob(blob) => check_blob(alloc, hasher, blob.as_slice(), selection, asked),
-        Board::Source(Made { compiled, text }) => {
-            let source = Source {
-                text: text.as_slice(),
-                places: &compiled.places,
-            };
-            let asked = asked.in_source(source);
-            Ok(check_tree(alloc, hasher, &compiled.tree, selection, asked)?)
-        }
+        Err(error) => Err(no_blob(host, &subject, error)),
     }
 }
 
@@ -146,9 +175,22 @@ fn taken<'a, S: Surroundings, E: Eprint, T>(
     let given = if format_of(path, bytes.as_slice()) == Format::Dtb {
         Board::Blob(bytes)
     } else {
-        Board::Source(compiled(host, inspection, file_of(path, &bytes))?)
+        Board::Source(source_made(host, inspection, path, &bytes)?)
     };
     Ok(Subject { path, given })
+}
+
+// A source, which goes through the preprocessor first where that is wanted.
+fn source_made<'a, S: Surroundings, E: Eprint, T>(
+    host: &mut Host<'_, S, E, T>,
+    inspection: &Inspection<'a>,
+    path: &'a str,
+    bytes: &Vec<u8>,
+) -> Result<Made, Failure<'a>> {
+    match prepared(host, path, bytes.as_slice(), &inspection.preprocessing)? {
+        Some(prepared) => compiled(host, inspection, file_of(path, &prepared)),
+        None => compiled(host, inspection, file_of(path, bytes)),
+    }
 }
 
 fn compiled<'a, S: Surroundings, E: Eprint, T>(

@@ -1,11 +1,8 @@
 //! Failures as objects of JSON.
 
-use crate::failure::{Failure, fail};
-use crate::files::INPUT;
-use crate::running::{FILE, REFUSED};
-use crate::surroundings::Surroundings;
 use dtman_diagnosis::{Diagnosis, Location, Note, Subject, copied, json_of};
 use dtman_engine::{Fault, MAX_TEXT_LEN};
+use dtman_host::{FILE, Failure, INPUT, REFUSED, Surroundings, fail};
 use std::alloc::{AllocError, Global};
 
 /// Prints the object of a refusal, and answers its exit status. What is no refusal is told in words.

@@ -1,10 +1,6 @@
 //! Commands that read and write nodes and values of blobs: `diff`, `get`, `ls`, `set`.
 
-use crate::diagnosing::{Given, Inputs, file_of};
-use crate::failure::Failure;
-use crate::host::Host;
 use crate::performing::Answer;
-use crate::surroundings::Surroundings;
 use dt_blob::BlobError;
 use dt_blob::query::QueryError;
 use dtman_blobs::{
@@ -12,9 +8,10 @@ use dtman_blobs::{
     set_bytes, value_line,
 };
 use dtman_engine::{Fault, Position};
+use dtman_host::{Failure, Given, Host, Inputs, REFUSED, Surroundings, file_of};
 
 /// A node or a property that is asked for.
-#[derive(Clone, Copy, Debug)]
+#[derive(Clone, Copy)]
 pub struct Asked<'a> {
     pub blob: &'a str,
     pub path: &'a str,
@@ -127,7 +124,10 @@ pub fn compared<'a, S: Surroundings, E: Eprint, T>(
     );
     match text {
         Ok(text) if text.is_empty() => Ok(Answer::Text(text)),
-        Ok(text) => Ok(Answer::Failing(text)),
+        Ok(text) => Ok(Answer::Failing {
+            text,
+            status: REFUSED,
+        }),
         Err(DiffError::First(error)) => Err(no_blob(host, file_of(first_path, &first), error)),
         Err(DiffError::Second(error)) => Err(no_blob(host, file_of(second_path, &second), error)),
         Err(DiffError::Text(error)) => Err(Failure::Refused(Fault::from(error))),

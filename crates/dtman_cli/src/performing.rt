@@ -1,27 +1,25 @@
 //! What each command does: its files in, one engine's bytes out.
 ghost use Rattle.std.specs.Prelude.{◌≡◌, false};
 
-use crate::blobs::{compiled, dumped, overlaid};
+use crate::blobs::{Compiling, compiled, dumped, overlaid};
 use crate::boots::{drivers_made, replayed, traced};
 use crate::checks::checked;
 use crate::explaining::explained;
-use crate::failure::Failure;
-use crate::files::{print, write_at};
-use crate::host::Host;
 use crate::nodes::{Asked, changed, compared, listed, sameness_of, valued};
+use crate::preprocessing::printed;
 use crate::questions::{needed, planned, probed, waiting};
-use crate::subcommand::Command;
-use crate::surroundings::Surroundings;
 use dtman_engine::Channel;
+use dtman_host::{Failure, Host, Surroundings, print, write_at};
+use dtman_words::Command;
 use std::thread::Threads;
 
 /// What a command leaves once all of it is there.
-#[derive(Debug, Drop)]
+#[derive(Drop)]
 pub enum Answer<'a> {
     /// Text for standard output.
     Text(Vec<u8>),
-    /// Text that lists what should not be there: a failure once it is printed.
-    Failing(Vec<u8>),
+    /// Text that lists what should not be there, or behind which something was refused: a failure once it is printed, with that status.
+    Failing { text: Vec<u8>, status: u8 },
     /// The bytes of a file.
     File { path: &'a str, bytes: Vec<u8> },
 }
@@ -50,16 +48,16 @@ fn deliver<'a, S: Surroundings, O: Channel, E: Eprint, T: Threads + Sync>(
 {
     match answer {
         Answer::Text(text) => print(output, text.as_slice()),
-        Answer::Failing(text) => failing(output, text.as_slice()),
+        Answer::Failing { text, status } => failing(output, text.as_slice(), status),
         Answer::File { path, bytes } => written(host, output, path, bytes.as_slice()),
     }
 }
 
-fn failing<O: Channel>(output: &mut O, text: &[u8]) -> Result<(), Failure<'static>>
+fn failing<O: Channel>(output: &mut O, text: &[u8], status: u8) -> Result<(), Failure<'static>>
     requires { O.has_failed output.old ≡ false }
 {
     print(output, text)?;
-    Err(Failure::Waiting)
+    Err(Failure::Ended(status))
 }
 
 fn written<'a, S: Surroundings, O: Channel, E: Eprint, T: Threads + Sync>(
@@ -83,7 +81,20 @@ fn answer_of<'a, S: Surroundings, E: Eprint, T: Threads + Sync>(
             out,
             symbols,
             language,
-        } => compiled(host, source, out, symbols, &language),
+            preprocessing,
+        } => {
+            let asked = Compiling {
+                out,
+                symbols,
+                language,
+                preprocessing,
+            };
+            compiled(host, source, &asked)
+        }
+        Command::Preprocess {
+            source,
+            definitions,
+        } => printed(host, source, &definitions),
         Command::Overlay { base, overlay, out } => overlaid(host, base, overlay, out),
         Command::Dump { blob, labels } => dumped(host, blob, labels),
         Command::Plan { board, picture } => planned(host, board, picture),
@@ -94,7 +105,11 @@ fn answer_of<'a, S: Surroundings, E: Eprint, T: Threads + Sync>(
         } => probed(host, board, workers, without),
         Command::Why { board, path, check } => waiting(host, board, path, check),
         Command::Needs { board, path } => needed(host, board, path),
-        Command::Drivers { aliases, builtin } => drivers_made(host, aliases, builtin),
+        Command::Drivers {
+            aliases,
+            builtin,
+            kernel,
+        } => drivers_made(host, aliases, builtin, kernel),
         Command::Trace { log, plan } => traced(host, log, plan),
         Command::Replay {
             plan,

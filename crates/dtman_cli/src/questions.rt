@@ -1,16 +1,12 @@
 //! The questions that are asked of a board: `plan`, `probe`, `why`, `needs`.
 
-use crate::diagnosing::{Inputs, Planned, file_of};
-use crate::failure::Failure;
-use crate::host::Host;
-use crate::near::no_such;
 use crate::performing::Answer;
-use crate::subcommand::{Board, Links, Picture};
-use crate::surroundings::Surroundings;
 use bus_links::Strictness;
 use dtman_diagnosis::{TextKind, driver_names};
 use dtman_engine::Fault;
+use dtman_host::{Failure, Host, Inputs, Planned, REFUSED, Surroundings, file_of, no_such};
 use dtman_why::{Asked, BoardAnswer, Form, board_answer, without_driver};
+use dtman_words::{Board, Links, Picture};
 use std::alloc::Global;
 use std::thread::Threads;
 
@@ -60,7 +56,10 @@ pub fn waiting<'a, S: Surroundings, E: Eprint, T: Threads + Sync>(
 ) -> Result<Answer<'a>, Failure<'a>> {
     let BoardAnswer { text, any, .. } = answered(host, board, None, Asked::Why(bytes_of(path)))?;
     if check && any {
-        return Ok(Answer::Failing(text));
+        return Ok(Answer::Failing {
+            text,
+            status: REFUSED,
+        });
     }
     Ok(Answer::Text(text))
 }

@@ -1,18 +1,15 @@
 //! The program: the words of a command line in, its exit status out.
 ghost use Rattle.std.specs.Prelude.{◌≡◌, false};
 
-use crate::detail::{Detail, asked_for};
-use crate::failure::{Failure, fail};
-use crate::files::{INPUT, print};
-use crate::host::Host;
-use crate::json::fail_json;
-use crate::noted::Noted;
+use crate::failing::tell_failure;
 use crate::performing::perform;
-use crate::reading::command;
-use crate::surroundings::{Surroundings, System};
 use crate::tools::{run_tool, tool_in};
 use clap::error::ErrorKind as Mistake;
-use dtman_engine::{Channel, Fault, MAX_TEXT_LEN, OutputChannel};
+use dtman_engine::{Channel, Fault, OutputChannel};
+use dtman_host::{
+    COMMAND_LINE, DONE, Detail, Failure, Host, Noted, Surroundings, System, asked_for, fail, print,
+};
+use dtman_words::command;
 use std::alloc::{AllocError, Global};
 use std::cell::Cell;
 use std::io::ErrorKind;
@@ -21,18 +18,6 @@ use std::random::RandomSource;
 use std::rt::{Env, Files};
 use std::thread::Threads;
 use std::{env, io};
-
-/// The exit status of a command that was done.
-pub const DONE: u8 = 0;
-
-/// The exit status of a refusal.
-pub const REFUSED: u8 = 1;
-
-/// The exit status of a command line that is no command.
-pub const COMMAND_LINE: u8 = 2;
-
-/// The exit status of a file that can't be read or written.
-pub const FILE: u8 = 3;
 
 /// Reads the arguments, runs the command, and answers the exit status.
 pub fn run<
@@ -168,13 +153,7 @@ fn run_command<S: Surroundings, O: Channel, E: Eprint, T: Threads + Sync>(
     match command(host.alloc, words) {
         Ok(command) => match perform(host, output, command) {
             Ok(()) => DONE,
-            Err(Failure::File(fault, path)) if host.detail == Detail::Verbose => {
-                fail_file(host.surroundings, errors, fault, path)
-            }
-            Err(failure) if host.detail == Detail::Json => {
-                fail_json(host.alloc, host.surroundings, errors, failure)
-            }
-            Err(failure) => fail(errors, failure),
+            Err(failure) => tell_failure(host, failure),
         },
         Err(error) => match error.kind() {
             Mistake::OutOfMemory => fail(errors, Failure::Refused(Fault::no_memory())),
@@ -187,38 +166,6 @@ fn run_command<S: Surroundings, O: Channel, E: Eprint, T: Threads + Sync>(
             }
         },
     }
-}
-
-// A fault of a file, with what the system says of it.
-fn fail_file<S: Surroundings, E: Eprint>(
-    surroundings: &mut S,
-    errors: &E,
-    fault: Fault,
-    path: &str,
-) -> u8 {
-    let status = fail(errors, Failure::File(fault, path));
-    if fault.number == 82 {
-        tell_length(surroundings, errors, path);
-    } else if let Some(error) = surroundings.reason() {
-        let _ = eprintln!(errors; "{path}: {error}");
-    }
-    status
-}
-
-// How long a file is that is too long, where that is known.
-fn tell_length<S: Surroundings, E: Eprint>(surroundings: &mut S, errors: &E, path: &str) {
-    let len = if path == INPUT {
-        None
-    } else {
-        surroundings.len(path)
-    };
-    let limit = MAX_TEXT_LEN as u64;
-    let _ = match len {
-        Some(len) if len > limit => {
-            eprintln!(errors; "{path}: the file has {len} bytes; at most {limit} are read")
-        }
-        _ => eprintln!(errors; "{path}: at most {limit} bytes are read"),
-    };
 }
 
 /// Prints what the words asked `clap` for.

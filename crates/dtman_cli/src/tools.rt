@@ -1,11 +1,10 @@
 //! The program in the place of those of dtc's package: by `dtman dtc ..` and the like, or by a link of that name.
 ghost use Rattle.std.specs.Prelude.{◌≡◌, false};
 
-use crate::dtc::{run_dtc, run_fdtoverlay};
-use crate::fdt::{run_fdtdump, run_fdtget, run_fdtput};
-use crate::host::Host;
-use crate::surroundings::Surroundings;
+use dtman_dtc::{run_dtc, run_fdtoverlay};
 use dtman_engine::Channel;
+use dtman_fdt::{run_fdtdump, run_fdtget, run_fdtput};
+use dtman_host::{Host, Surroundings};
 
 /// A program in whose place this one stands.
 #[derive(Clone, Copy, Debug, PartialEq, Eq)]

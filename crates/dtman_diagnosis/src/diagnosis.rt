@@ -3,7 +3,7 @@
 use std::alloc::{AllocError, Global};
 
 /// Where a fault is.
-#[derive(Debug, Drop)]
+#[derive(Drop)]
 pub enum Location {
     Nowhere,
     /// A file as a whole.
@@ -27,7 +27,7 @@ pub enum Location {
 }
 
 /// What else there is to say.
-#[derive(Debug, Drop)]
+#[derive(Drop)]
 pub enum Note {
     /// The node in which it stands, and the property.
     In {
@@ -101,7 +101,7 @@ pub enum Note {
 }
 
 /// What is meant.
-#[derive(Clone, Copy, Debug, PartialEq, Eq)]
+#[derive(Clone, Copy, PartialEq, Eq)]
 pub enum Subject {
     Nothing,
     Label,
@@ -139,7 +139,7 @@ pub enum Subject {
 }
 
 /// A refusal by its number, where it is, what it is of, and what else there is to say.
-#[derive(Debug, Drop)]
+#[derive(Drop)]
 pub struct Diagnosis {
     pub number: u8,
     pub location: Location,

@@ -15,13 +15,19 @@ pub(crate) fn meant(
 ) -> Result<Option<Vec<u8>>, AllocError> {
     let rest = halt.rest();
     let word = rest.get(..word_len(rest)).unwrap_or(&[]);
-    if kind == Subject::Word {
-        return Ok(Some(joined(alloc, b"\"", word, b"\"")?));
-    }
-    if halt.bracket == Some(Kind::Less) && is_label(halt, word) {
+    let is_value = kind == Subject::Word;
+    if (is_value || halt.bracket == Some(Kind::Less)) && is_label(halt, word) {
         return Ok(Some(joined(alloc, b"&", word, b"")?));
     }
+    if is_value && !is_truth(word) {
+        return Ok(Some(joined(alloc, b"\"", word, b"\"")?));
+    }
     Ok(None)
+}
+
+// Whether a word says what a property says by being there (Devicetree Specification v0.4, section 2.2.4).
+fn is_truth(word: &[u8]) -> bool {
+    word == b"true".as_slice() || word == b"false".as_slice()
 }
 
 fn joined(alloc: Global, before: &[u8], word: &[u8], behind: &[u8]) -> Result<Vec<u8>, AllocError> {
@@ -31,10 +37,28 @@ fn joined(alloc: Global, before: &[u8], word: &[u8], behind: &[u8]) -> Result<Ve
     Ok(text)
 }
 
-// Whether a label before this place is the word.
+// Whether the word is a label: before this place, or behind it, where nothing was read yet.
 fn is_label(halt: Halt<'_>, word: &[u8]) -> bool {
     halt.lexemes.iter().any(|lexeme| lexeme.kind == Kind::Label
         && named(halt.origin.text, *lexeme) == word)
+        || has_label(halt.rest(), word)
+}
+
+// Whether the word stands in the text with a colon behind it, and no letter before it.
+fn has_label(text: &[u8], word: &[u8]) -> bool {
+    for (place, c) in text.iter().enumerate() {
+        if *c == b':' && ends_in(text.get(..place).unwrap_or(&[]), word) {
+            return true;
+        }
+    }
+    false
+}
+
+fn ends_in(text: &[u8], word: &[u8]) -> bool {
+    match text.get(..text.len().saturating_sub(word.len())) {
+        Some([.., c]) => text.ends_with(word) && !c.is_ascii_alphanumeric() && *c != b'_',
+        _ => false,
+    }
 }
 
 /// What to do at this place, where that is known.
@@ -43,6 +67,9 @@ pub(crate) fn hint(halt: Halt<'_>) -> Option<&'static str> {
         if let Some(words) = nature_of_no_text(halt.origin.text) {
             return Some(words);
         }
+    }
+    if let Some(words) = of_number(halt) {
+        return Some(words);
     }
     if let Some(words) = of_dtc_language(halt) {
         return Some(words);
@@ -59,8 +86,25 @@ pub(crate) fn hint(halt: Halt<'_>) -> Option<&'static str> {
     of_value(halt)
 }
 
-// A number where a value must begin.
+// Letters right behind a number.
+fn of_number(halt: Halt<'_>) -> Option<&'static str> {
+    let number = halt.before(1)?;
+    let is_behind = number.kind == Kind::Literal && number.end as usize == halt.start;
+    if is_behind && matches!(halt.rest(), [c, ..] if is_letter(*c)) {
+        Some("a number has digits, behind `0x` those of base 16, and ends in `U`, `L` or neither")
+    } else {
+        None
+    }
+}
+
+// A number where a value must begin, or a word of truth.
 fn of_value(halt: Halt<'_>) -> Option<&'static str> {
+    let rest = halt.rest();
+    if halt.kind_before(1) == Some(Kind::Equals)
+        && is_truth(rest.get(..word_len(rest)).unwrap_or(&[]))
+    {
+        return Some("a property that is there is true, and has no value");
+    }
     let stop = halt.lexemes.get(halt.index)?;
     match (halt.kind_before(1)?, stop.kind) {
         (Kind::Equals, Kind::Literal) => Some("a number stands in `<..>`"),

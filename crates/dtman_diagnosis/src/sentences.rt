@@ -208,13 +208,38 @@ fn of_file(number: u8, kind: Subject) -> Sentence {
     }
 }
 
+fn of_preprocessor(number: u8, kind: Subject) -> Sentence {
+    match number {
+        83 => of("no file can be read that is named ", ""),
+        84 => plain("files or calls of macros are nested deeper than 200 here"),
+        85 => plain("the line comes to more than 4,000,000 tokens"),
+        86 => plain("the text with all that it includes has more than 67,108,864 bytes"),
+        87 => plain("the comment that begins here isn't closed in its file"),
+        88 => of("", " isn't served"),
+        91 => of(
+            "the call of ",
+            " has a wrong number of arguments, or isn't closed",
+        ),
+        92 => of(
+            "",
+            " stands without its `#if`, or is an `#if` that isn't closed",
+        ),
+        93 => of("the source says: ", ""),
+        _ => match kind {
+            Subject::Nothing => plain("the directive ends, and more must follow"),
+            _ => of("", " can't stand here in a directive"),
+        },
+    }
+}
+
 /// Writes the sentence of a diagnosis.
 pub(crate) fn push_sentence(out: &mut String, diagnosis: &Diagnosis) -> Result<(), AllocError> {
     let sentence = match diagnosis.number {
         0..=29 => of_source(diagnosis.number, diagnosis.kind),
         30..=39 => of_blob(diagnosis.number),
         40..=49 => of_overlay(diagnosis.number, diagnosis.kind),
-        80..=89 => of_file(diagnosis.number, diagnosis.kind),
+        80..=82 => of_file(diagnosis.number, diagnosis.kind),
+        83..=93 => of_preprocessor(diagnosis.number, diagnosis.kind),
         _ => of_bus(diagnosis.number, diagnosis.kind),
     };
     out.push_str(sentence.before)?;

@@ -16,7 +16,7 @@ use Rattle.dt_blob.specs.declared.error.BlobError.{BlobError}
 use Rattle.dt_blob.specs.Blob.{blob_of}
 use Rattle.dt_blob.specs.Blob as blob
 use Rattle.dt_build.specs.Built.{IsLonger, IsTreeOf}
-use Rattle.dtman_engine.specs.Private.Writing.{CannotWrite}
+use Rattle.dtman_engine.specs.Copy.{CannotWrite}
 use Rattle.dtman_engine.specs.Compile.{meant_by}
 use Rattle.dt_source.specs.declared.place.Place.{Place}
 use Rattle.dtman_engine.specs.Meant.{CannotBuild, HasLongBlob, IsBlobOf, IsBlobOfText, Meant, SaysInVain, SaysNone}

@@ -11,7 +11,7 @@ use Rattle.dt_blob.specs.Blob.{blob_of}
 use Rattle.dt_blob.specs.Holds.{Holds}
 use Rattle.dt_overlay.specs.Applied.{IsApplied, IsLonger}
 use Rattle.dtman_engine.specs.declared.fault.Fault.{Fault}
-use Rattle.dtman_engine.specs.Private.Writing.{CannotWrite}
+use Rattle.dtman_engine.specs.Copy.{CannotWrite}
 use Rattle.dtman_engine.specs.Dump.{Explains, IsUnread}
 use Rattle.dtman_engine.specs.Fault.{Answer, FaultValue, fault_value, no_memory}
 use Rattle.dtman_engine.specs.BlobFaults.{blob_fault}

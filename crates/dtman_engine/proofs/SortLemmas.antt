@@ -7,7 +7,7 @@ use Rattle.dt_blob.specs.Holds.{Holds}
 use Rattle.dtman_engine.specs.declared.fault.Fault.{Fault}
 use Rattle.dtman_engine.specs.Fault.{FaultValue, fault_value}
 use Rattle.dtman_engine.specs.Limits.{blob_limit}
-use Rattle.dtman_engine.specs.Private.Writing.{CannotWrite}
+use Rattle.dtman_engine.specs.Copy.{CannotWrite}
 use Rattle.dtman_engine.specs.Sort.{CannotSort, IsSort, IsSortedBlob, IsSortRefusal}
 
 unwritten : (tree sorted : TreeData) (fault : FaultValue) → IsTree sorted → IsSortedTree tree sorted → CannotWrite (length (blob_of sorted)) fault → CannotSort tree fault

@@ -17,9 +17,13 @@ pub record IsCopy (blob copy : List ℕ) : Type 0 where
   pub copy_is : copy ≡ blob_of tree
   pub fits : length copy ≤ blob_limit
 
--- why a tree that is held has no copy: memory is wanted, or its blob is too long
+-- why a blob of so many bytes isn't written: memory is wanted, or it is too long
+abbrev pub CannotWrite : ℕ → FaultValue → Type 0
+CannotWrite size fault = (fault ≡ no_memory) ⊎ ((fault ≡ blob_fault TooLarge) × (blob_limit < size))
+
+-- why a tree that is held has no copy
 abbrev pub CannotCopy : TreeData → FaultValue → Type 0
-CannotCopy tree fault = (fault ≡ no_memory) ⊎ ((fault ≡ blob_fault TooLarge) × (blob_limit < length (blob_of tree)))
+CannotCopy tree fault = CannotWrite (length (blob_of tree)) fault
 
 -- the answer to a tree: its blob, or why there is none
 abbrev pub CopiesTree : TreeData → Answer → Type 0

@@ -9,12 +9,14 @@ use Rattle.dt_source.specs.OverlayMeaning.Fault as overlay
 use Rattle.bus_plan.specs.declared.error.PlanError.TheVariants as text
 use Rattle.bus_core.specs.declared.refusal.Refusal.TheVariants as event
 use Rattle.bus_manager.specs.declared.run_error.RunError.TheVariants as run
+use Rattle.dt_preprocess.specs.declared.refusal.Reason.TheVariants as header
 use Rattle.dt_source.specs.Places.{beginning}
 use Rattle.dtman_engine.specs.declared.explaining.Explanation.{Explanation}
 use Rattle.dtman_engine.specs.Fault.{FaultValue, no_memory, cannot_read, cannot_write, file_too_long}
 use Rattle.dtman_engine.specs.BlobFaults.{blob_fault}
 use Rattle.dtman_engine.specs.EventFaults.{event_fault}
 use Rattle.dtman_engine.specs.OverlayFaults.{meant_fault}
+use Rattle.dtman_engine.specs.PreprocessFaults.{preprocess_fault}
 use Rattle.dtman_engine.specs.RunFaults.{run_fault}
 use Rattle.dtman_engine.specs.SourceFaults.{source_fault, build_fault}
 use Rattle.dtman_engine.specs.TextFaults.{text_fault}
@@ -58,10 +60,14 @@ run_faults = run_fault run.TooManyWorkers ∷ []
 abbrev pub file_faults : List FaultValue
 file_faults = cannot_read ∷ cannot_write ∷ file_too_long ∷ []
 
+abbrev pub preprocess_faults : List FaultValue
+preprocess_faults =
+    map preprocess_fault (header.NoFile ∷ header.TooDeep ∷ header.TooManyTokens ∷ header.TooLong ∷ header.OpenComment ∷ header.Unserved ∷ header.Directive ∷ header.Condition ∷ header.Call ∷ header.Conditional ∷ header.Error ∷ [])
+
 -- the name of the refusal that has the number
 abbrev pub name_for : ℕ → Option (List ℕ)
 name_for number =
-    name_in (flat_map (λ (faults : List FaultValue). faults) (memory_faults ∷ source_faults ∷ build_faults ∷ blob_faults ∷ overlay_faults ∷ text_faults ∷ event_faults ∷ run_faults ∷ file_faults ∷ [])) number
+    name_in (flat_map (λ (faults : List FaultValue). faults) (memory_faults ∷ source_faults ∷ build_faults ∷ blob_faults ∷ overlay_faults ∷ text_faults ∷ event_faults ∷ run_faults ∷ file_faults ∷ preprocess_faults ∷ [])) number
 
 -- an entry as it is printed
 abbrev pub entry_text : Explanation → List ℕ

@@ -14,6 +14,7 @@ pub mod Meant
 pub mod Overlay
 pub mod OverlayFaults
 pub mod Plan
+pub mod PreprocessFaults
 pub mod Private
 pub mod Probe
 pub mod Replay

@@ -2,4 +2,3 @@
 pub mod CompilingDtc
 pub mod Printing
 pub mod Running
-pub mod Writing

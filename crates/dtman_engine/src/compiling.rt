@@ -8,7 +8,7 @@ ghost use Rattle.dtman_engine.specs.Compile.{Builds, IsCompileRefusal, IsCompile
 ghost use Rattle.dtman_engine.specs.Culprit.{IsOfNoBlob};
 ghost use Rattle.dtman_engine.specs.Fault.{fault_value};
 ghost use Rattle.dtman_engine.specs.Limits.{IsShort};
-ghost use Rattle.dtman_engine.specs.Private.Writing.{Writes};
+ghost use Rattle.dtman_engine.specs.Copy.{CopiesTree};
 
 use crate::fault::Fault;
 use crate::limits::MAX_BLOB_LEN;
@@ -64,9 +64,10 @@ fn source_blob(
     }
 }
 
-/// The blob of a tree.
-pub(crate) fn tree_blob(alloc: Global, hasher: RandomState, tree: &Tree) -> Result<Vec<u8>, Fault>
-    ensures made { Writes tree.now result }
+/// The blob of a tree: of version 17, in the order of chapter 5 of the Devicetree Specification. Refused are want of memory (0) and a
+/// blob of more than 268,435,456 bytes (33).
+pub fn tree_blob(alloc: Global, hasher: RandomState, tree: &Tree) -> Result<Vec<u8>, Fault>
+    ensures made { CopiesTree tree.now result }
     ensures word { IfErr result (λ fault. IsOfNoBlob fault.culprit) }
 {
     match write(alloc, hasher, tree) {

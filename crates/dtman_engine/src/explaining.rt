@@ -1,6 +1,6 @@
 //! What each number means, and what to do about it.
 ghost use Rattle.std.specs.Prelude.{◌≡◌, IfSome, option_map};
-ghost use Rattle.dtman_engine.specs.Explain.{name_in, name_for, memory_faults, source_faults, build_faults, blob_faults, overlay_faults, text_faults, event_faults, run_faults, file_faults};
+ghost use Rattle.dtman_engine.specs.Explain.{name_in, name_for, memory_faults, source_faults, build_faults, blob_faults, overlay_faults, text_faults, event_faults, run_faults, file_faults, preprocess_faults};
 
 mod texts;
 
@@ -69,6 +69,7 @@ fn texts_of(number: u8) -> Option<Texts>
         .or(of_event(number))
         .or(of_run(number))
         .or(of_file(number))
+        .or(of_preprocessor(number))
 }
 
 fn of_memory(number: u8) -> Option<Texts>
@@ -192,6 +193,25 @@ fn of_file(number: u8) -> Option<Texts>
         80 => Some(texts::CANNOT_READ),
         81 => Some(texts::CANNOT_WRITE),
         82 => Some(texts::FILE_TOO_LONG),
+        _ => None,
+    }
+}
+
+fn of_preprocessor(number: u8) -> Option<Texts>
+    ensures { option_map (λ texts. texts.0.now) result ≡ name_in preprocess_faults number }
+{
+    match number {
+        83 => Some(texts::NO_HEADER),
+        84 => Some(texts::NESTED_TOO_DEEP),
+        85 => Some(texts::TOO_MANY_TOKENS),
+        86 => Some(texts::TEXT_TOO_LONG),
+        87 => Some(texts::OPEN_COMMENT),
+        88 => Some(texts::UNSERVED),
+        89 => Some(texts::BAD_DIRECTIVE),
+        90 => Some(texts::BAD_CONDITION),
+        91 => Some(texts::BAD_CALL),
+        92 => Some(texts::BAD_CONDITIONAL),
+        93 => Some(texts::ERROR_DIRECTIVE),
         _ => None,
     }
 }

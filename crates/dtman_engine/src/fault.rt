@@ -10,6 +10,7 @@ ghost use Rattle.dtman_engine.specs.OverlayFaults.{overlay_fault};
 ghost use Rattle.dtman_engine.specs.TextFaults.{text_fault};
 ghost use Rattle.dtman_engine.specs.EventFaults.{event_fault};
 ghost use Rattle.dtman_engine.specs.RunFaults.{run_fault};
+ghost use Rattle.dtman_engine.specs.PreprocessFaults.{preprocess_fault};
 
 use crate::culprit::{BlobRole, Culprit};
 use bus_core::Refusal;
@@ -19,6 +20,7 @@ use bus_plan::PlanError;
 use dt_blob::{BlobError, ReadError};
 use dt_build::BuildError;
 use dt_overlay::OverlayError;
+use dt_preprocess::Reason;
 use dt_source::{Place, SourceError, SourceErrorKind, place_at};
 use std::alloc::AllocError;
 use std::fmt;
@@ -242,6 +244,20 @@ impl From<RunError> for Fault {
         Fault {
             number: error.number(),
             name: error.name(),
+            position: Position::Nowhere,
+            culprit: None,
+        }
+    }
+}
+
+/// The place stands in a file of its own, whose name no fault has.
+impl From<Reason> for Fault {
+    ghost from_gives = { λ reason fault. (fault_value fault ≡ preprocess_fault reason) × (fault.culprit ≡ None) };
+
+    fn from(reason: Reason) -> Fault {
+        Fault {
+            number: reason.number(),
+            name: reason.name(),
             position: Position::Nowhere,
             culprit: None,
         }

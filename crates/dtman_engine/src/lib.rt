@@ -26,7 +26,7 @@ mod streams;
 mod transfer;
 
 pub use channel::{Channel, Failed};
-pub use compiling::compile_bytes;
+pub use compiling::{compile_bytes, tree_blob};
 pub use compiling_dtc::{Compiled, DtcOptions, compile_dtc};
 pub use copying::copy_bytes;
 pub use culprit::{BlobRole, Culprit, Unread};
@@ -39,6 +39,7 @@ pub use memory::Memory;
 pub use overlaying::overlay_bytes;
 pub use planning::{plan_bytes, planned};
 pub use probing::probe_bytes;
+pub use reading::tree_of;
 pub use replay::replay_bytes;
 pub use replay_run::replay_run_bytes;
 pub use sorting::sort_bytes;

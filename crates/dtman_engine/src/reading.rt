@@ -16,8 +16,8 @@ use dt_blob::read;
 use dt_tree::Tree;
 use std::alloc::Global;
 
-/// The tree of the blob in this role.
-pub(crate) fn tree_of(alloc: Global, role: BlobRole, blob: &[u8]) -> Result<Tree, Fault>
+/// The tree of the blob in this role, or why its bytes hold none, with the word at which they are refused (30 to 39).
+pub fn tree_of(alloc: Global, role: BlobRole, blob: &[u8]) -> Result<Tree, Fault>
     // What is read is held.
     ensures found { IfOk result (λ tree. Holds blob.now tree) }
     // What is held is read, unless memory runs out.

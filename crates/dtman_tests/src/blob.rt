@@ -11,4 +11,6 @@ mod folders;
 #[cfg(test)]
 mod layouts;
 #[cfg(test)]
+mod renumbered;
+#[cfg(test)]
 mod tools;

@@ -1,8 +1,8 @@
 //! Surroundings over memory.
 ghost use Rattle.std.specs.Prelude.{◌≡◌, None};
 
-use dtman_cli::{Beside, Entry, EntryKind, Surroundings};
 use dtman_engine::{Channel, Failed, Memory};
+use dtman_host::{Beside, Entry, EntryKind, Surroundings};
 use std::alloc::Global;
 use std::cell::RefCell;
 use std::hash::RandomState;

@@ -3,7 +3,7 @@
 use crate::by_links::linked_answer;
 use crate::order_text::needs_text;
 use crate::pictures::{Picture, planned_picture};
-use crate::reasons::NoReasons;
+use crate::reasons::{BuiltIn, NoReasons};
 use crate::waits::why_text;
 use bus_links::Strictness;
 use bus_manager::TableProber;
@@ -98,7 +98,8 @@ fn waits_answer<R: Threads + Sync>(
     path: Option<&[u8]>,
 ) -> Result<BoardAnswer, Fault> {
     let plan = planned(alloc, hasher, blob, drivers)?;
-    let waits = why_text(rt, alloc, &plan, &NoReasons, path)?;
+    let built_in = BuiltIn::of(drivers);
+    let waits = why_text(rt, alloc, &plan, &NoReasons, built_in, path)?;
     Ok(BoardAnswer {
         text: waits.text,
         any: waits.any,

@@ -1,7 +1,7 @@
 //! A boot's log as a schedule, with the names that it leaves out.
 
-use crate::boot_log::{Traced, Unplaced, boot_schedule};
 use crate::shown::add_shown;
+use bus_log::{Traced, Unplaced, boot_schedule};
 use bus_plan::read_plan;
 use dtman_engine::Fault;
 use std::alloc::{AllocError, Global};

@@ -3,7 +3,7 @@
 use crate::answers::{Asked, BoardAnswer};
 use crate::order_text::needs_text;
 use crate::pictures::linked_picture;
-use crate::reasons::Reasons;
+use crate::reasons::{BuiltIn, Reasons};
 use crate::waits::{Waits, why_text};
 use bus_links::{Link, Linked, Strictness, link, linked_text, read_link_drivers, warnings_text};
 use bus_manager::{TableProber, run};
@@ -66,13 +66,14 @@ fn answer<R: Threads + Sync>(
     rt: &R,
     alloc: Global,
     linked: &Linked<'_>,
+    built_in: BuiltIn,
     asked: Asked<'_>,
 ) -> Result<Waits, Fault> {
     match asked {
         Asked::Plan => Ok(alone(linked_text(alloc, linked)?)),
         Asked::Picture(picture) => Ok(alone(linked_picture(rt, alloc, linked, picture)?)),
         Asked::Report(workers) => Ok(alone(report(rt, alloc, linked.plan(), workers)?)),
-        Asked::Why(path) => why_text(rt, alloc, linked.plan(), linked, path),
+        Asked::Why(path) => why_text(rt, alloc, linked.plan(), linked, built_in, path),
         Asked::Needs(path) => Ok(alone(needs_text(alloc, linked.plan(), path)?)),
     }
 }
@@ -81,10 +82,11 @@ fn with_warnings<R: Threads + Sync>(
     rt: &R,
     alloc: Global,
     linked: &Linked<'_>,
+    built_in: BuiltIn,
     asked: Asked<'_>,
 ) -> Result<BoardAnswer, Fault> {
     let warnings = warnings_text(alloc, linked)?;
-    let Waits { text, any } = answer(rt, alloc, linked, asked)?;
+    let Waits { text, any } = answer(rt, alloc, linked, built_in, asked)?;
     Ok(BoardAnswer {
         text,
         any,
@@ -104,7 +106,8 @@ pub(crate) fn linked_answer<R: Threads + Sync>(
     asked: Asked<'_>,
 ) -> Result<BoardAnswer, Fault> {
     let tree = read(alloc, blob)?;
+    let built_in = BuiltIn::of(drivers);
     let drivers = read_link_drivers(alloc, hasher, drivers)?;
     let linked = link(alloc, hasher, &tree, &drivers, strictness)?;
-    with_warnings(rt, alloc, &linked, asked)
+    with_warnings(rt, alloc, &linked, built_in, asked)
 }

@@ -1,6 +1,6 @@
 //! A chain as a line.
 
-use crate::reasons::Reasons;
+use crate::reasons::{BuiltIn, Reasons};
 use bus_picture::why::{Cause, Chain};
 use bus_plan::{Device, Plan};
 use std::alloc::{AllocError, Global};
@@ -39,9 +39,17 @@ fn add_driver(text: &mut Vec<u8>, plan: &Plan, device: Device) -> Result<(), All
     }
 }
 
+fn add_left_out(text: &mut Vec<u8>, built_in: BuiltIn) -> Result<(), AllocError> {
+    match built_in {
+        BuiltIn::LookedAt => Ok(()),
+        BuiltIn::LeftOut => text.extend_from_slice(b" (built-in drivers weren't looked at)"),
+    }
+}
+
 fn add_cause(
     text: &mut Vec<u8>,
     plan: &Plan,
+    built_in: BuiltIn,
     device: Device,
     cause: Cause,
 ) -> Result<(), AllocError> {
@@ -57,7 +65,8 @@ fn add_cause(
         }
         Cause::Unmatched => {
             text.extend_from_slice(b": no driver matches")?;
-            add_strings(text, plan, device)
+            add_strings(text, plan, device)?;
+            add_left_out(text, built_in)
         }
         Cause::Disabled => text.extend_from_slice(b": disabled"),
         Cause::Cycle(_) => text.extend_from_slice(b": a cycle"),
@@ -70,6 +79,7 @@ pub fn add_chain<S: Reasons>(
     text: &mut Vec<u8>,
     plan: &Plan,
     reasons: &S,
+    built_in: BuiltIn,
     chain: &Chain,
 ) -> Result<(), AllocError> {
     let mut before: Option<Device> = None;
@@ -84,7 +94,7 @@ pub fn add_chain<S: Reasons>(
         before = Some(*device);
     }
     if let Some(last) = before {
-        add_cause(text, plan, last, chain.cause)?;
+        add_cause(text, plan, built_in, last, chain.cause)?;
     }
     text.push(b'\n')?;
     Ok(())

@@ -3,8 +3,9 @@
 ghost use Rattle.std.specs.Prelude.{IfOk};
 ghost use Rattle.bus_drivers.specs.Modules.ModuleDrivers.{IsDriverFile};
 
+use crate::built_in::strings_of;
 use crate::shown::add_shown;
-use bus_drivers::modules::{ModuleDrivers, Origin, Unsaid, module_drivers};
+use bus_drivers::modules::{Kernel, ModuleDrivers, Origin, Unsaid, module_drivers};
 use dtman_engine::Fault;
 use std::alloc::{AllocError, Global};
 use std::hash::RandomState;
@@ -49,15 +50,39 @@ fn told(alloc: Global, made: ModuleDrivers<'_>) -> Result<Installed, AllocError>
     })
 }
 
-/// The driver file of `modules.alias` and `modules.builtin.modinfo`.
+// The same with the tables of a kernel.
+fn drivers_with(
+    alloc: Global,
+    hasher: RandomState,
+    aliases: &[u8],
+    builtin: &[u8],
+    kernel: Kernel<'_>,
+) -> Result<Installed, Fault>
+    ensures { IfOk result (λ installed. IsDriverFile installed.drivers.items) }
+{
+    let made = module_drivers(alloc, hasher, aliases, builtin, kernel)?;
+    Ok(told(alloc, made)?)
+}
+
+/// The driver file of `modules.alias`, `modules.builtin.modinfo` and the unpacked image of a kernel, where one is given.
 pub fn installed_drivers(
     alloc: Global,
     hasher: RandomState,
     aliases: &[u8],
     builtin: &[u8],
+    image: Option<&[u8]>,
 ) -> Result<Installed, Fault>
     ensures { IfOk result (λ installed. IsDriverFile installed.drivers.items) }
 {
-    let made = module_drivers(alloc, hasher, aliases, builtin)?;
-    Ok(told(alloc, made)?)
+    let Some(image) = image else {
+        return drivers_with(alloc, hasher, aliases, builtin, Kernel::NotLookedAt);
+    };
+    let tables = strings_of(alloc, image)?;
+    drivers_with(
+        alloc,
+        hasher,
+        aliases,
+        builtin,
+        Kernel::Tables(tables.as_slice()),
+    )
 }

@@ -1,11 +1,9 @@
 //! What the commands `why`, `needs`, `drivers` and `trace` answer, from the bytes of files to text.
-//!
-//! Room: `boot_log`, what a kernel's log tells of a boot, as a schedule over a plan.
 #![tactic(auto)]
 
 mod answers;
-pub mod boot_log;
 mod boots;
+mod built_in;
 mod by_links;
 mod chain_text;
 mod end;

@@ -1,5 +1,6 @@
-//! What made the links of a plan.
+//! What made the links of a plan, and whether all drivers were looked at.
 
+use bus_drivers::modules::lacks_builtin;
 use bus_plan::Device;
 use std::alloc::{AllocError, Global};
 
@@ -13,6 +14,25 @@ pub trait Reasons {
         consumer: Device,
         supplier: Device,
     ) -> Result<(), AllocError>;
+}
+
+/// Whether a driver file has the drivers that are built into a kernel.
+#[derive(Clone, Copy, PartialEq, Eq)]
+pub enum BuiltIn {
+    LookedAt,
+    /// Its head says that they were left out, which is to be said where no driver matches a device.
+    LeftOut,
+}
+
+impl BuiltIn {
+    /// What the head of a driver file says.
+    pub fn of(drivers: &[u8]) -> BuiltIn {
+        if lacks_builtin(drivers) {
+            BuiltIn::LeftOut
+        } else {
+            BuiltIn::LookedAt
+        }
+    }
 }
 
 /// Those of a plan of which no more is known.

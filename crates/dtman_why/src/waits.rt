@@ -4,7 +4,7 @@ ghost use Rattle.std.specs.Prelude.{◌<◌, length, IfSome};
 
 use crate::chain_text::add_chain;
 use crate::end::end_of;
-use crate::reasons::Reasons;
+use crate::reasons::{BuiltIn, Reasons};
 use bus_picture::why::{Cause, chain_from, waiting_chains};
 use bus_plan::{Device, Plan, PlanError};
 use dtman_engine::{Fault, Position};
@@ -43,6 +43,7 @@ fn one<S: Reasons>(
     alloc: Global,
     plan: &Plan,
     reasons: &S,
+    built_in: BuiltIn,
     bound: &[bool],
     device: Device,
 ) -> Result<Waits, AllocError>
@@ -50,7 +51,7 @@ fn one<S: Reasons>(
 {
     let chain = chain_from(alloc, plan, bound, device)?;
     let mut text = Vec::new(alloc);
-    add_chain(alloc, &mut text, plan, reasons, &chain)?;
+    add_chain(alloc, &mut text, plan, reasons, built_in, &chain)?;
     let any = !matches!(chain.cause, Cause::Bound);
     Ok(Waits { text, any })
 }
@@ -59,12 +60,13 @@ fn all<S: Reasons>(
     alloc: Global,
     plan: &Plan,
     reasons: &S,
+    built_in: BuiltIn,
     bound: &[bool],
 ) -> Result<Waits, AllocError> {
     let chains = waiting_chains(alloc, plan, bound)?;
     let mut text = Vec::new(alloc);
     for chain in &chains {
-        add_chain(alloc, &mut text, plan, reasons, chain)?;
+        add_chain(alloc, &mut text, plan, reasons, built_in, chain)?;
     }
     let any = !chains.is_empty();
     Ok(Waits { text, any })
@@ -75,14 +77,17 @@ fn waits_of<S: Reasons>(
     alloc: Global,
     plan: &Plan,
     reasons: &S,
+    built_in: BuiltIn,
     bound: &[bool],
     path: Option<&[u8]>,
 ) -> Result<Waits, Fault> {
     let Some(path) = path else {
-        return all(alloc, plan, reasons, bound).map_err(|_| Fault::no_memory());
+        return all(alloc, plan, reasons, built_in, bound).map_err(|_| Fault::no_memory());
     };
     match device_at(plan, path) {
-        Some(device) => { one(alloc, plan, reasons, bound, device).map_err(|_| Fault::no_memory()) }
+        Some(device) => {
+            one(alloc, plan, reasons, built_in, bound, device).map_err(|_| Fault::no_memory())
+        }
         None => Err(no_device()),
     }
 }
@@ -93,10 +98,11 @@ pub fn why_text<S: Reasons, R: Threads + Sync>(
     alloc: Global,
     plan: &Plan,
     reasons: &S,
+    built_in: BuiltIn,
     path: Option<&[u8]>,
 ) -> Result<Waits, Fault> {
     match end_of(rt, alloc, plan) {
-        Ok(bound) => waits_of(alloc, plan, reasons, bound.as_slice(), path),
+        Ok(bound) => waits_of(alloc, plan, reasons, built_in, bound.as_slice(), path),
         Err(fault) => Err(fault),
     }
 }

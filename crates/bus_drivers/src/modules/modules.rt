@@ -27,6 +27,8 @@ pub struct Modules {
     names: PathIndex,
     /// The names with a string behind each, parted by a space.
     pairs: PathIndex,
+    /// The strings that are matched by any.
+    strings: PathIndex,
     /// A line for each name.
     lines: Vec<Vec<u8>>,
 }
@@ -45,8 +47,14 @@ impl Modules {
         Self {
             names: PathIndex::new(alloc, hasher),
             pairs: PathIndex::new(alloc, hasher),
+            strings: PathIndex::new(alloc, hasher),
             lines: Vec::new(alloc),
         }
+    }
+
+    /// Whether any module matches this string.
+    pub fn matches(&self, string: &[u8]) -> bool {
+        self.strings.contains(string)
     }
 
     // The place of a module's line, which is begun where there is none.
@@ -59,6 +67,14 @@ impl Modules {
         Ok(self.lines.len() - 1)
     }
 
+    // A string is matched.
+    fn add_string(&mut self, alloc: Global, string: &[u8]) -> Result<(), AllocError> {
+        if self.strings.contains(string) {
+            return Ok(());
+        }
+        self.strings.add(alloc, string)
+    }
+
     /// A module matches a string. What it was said to match before isn't said again.
     pub fn add(&mut self, alloc: Global, name: &[u8], string: &[u8]) -> Result<(), AllocError> {
         let pair = joined(alloc, name, string)?;
@@ -66,6 +82,7 @@ impl Modules {
             return Ok(());
         }
         self.pairs.add(alloc, pair.as_slice())?;
+        self.add_string(alloc, string)?;
         let place = self.place_of(alloc, name)?;
         if let Some(line) = self.lines.get_mut(place) {
             line.push(b' ')?;
@@ -74,9 +91,9 @@ impl Modules {
         Ok(())
     }
 
-    /// The text of all lines.
-    pub fn text(&self, alloc: Global) -> Result<Vec<u8>, AllocError> {
-        let mut text = Vec::new(alloc);
+    /// The text of all lines, behind a head.
+    pub fn text(&self, alloc: Global, head: &[u8]) -> Result<Vec<u8>, AllocError> {
+        let mut text = Vec::from_slice(alloc, head)?;
         for line in &self.lines {
             text.extend_from_slice(line.as_slice())?;
             text.push(b'\n')?;

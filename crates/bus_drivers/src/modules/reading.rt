@@ -5,6 +5,7 @@ ghost use Rattle.bus_drivers.specs.Modules.ModuleDrivers.{IsDriverFile};
 
 use crate::modules::alias::{Said, said_of};
 use crate::modules::modules::{ModuleDrivers, Modules, Unsaid};
+use crate::modules::tables::{NOT_LOOKED_AT, add_tables};
 use crate::read_drivers;
 use bstr::ByteSlice;
 use bus_plan::{Fields, PlanError, is_driver_name, lines_of};
@@ -18,6 +19,14 @@ pub enum Origin {
     Aliases,
     /// `modules.builtin.modinfo`: entries `MODULE.alias=ALIAS`, each ended by a zero byte.
     Builtin,
+}
+
+/// The tables of the drivers that are built into a kernel: of each the strings that it matches.
+#[derive(Clone, Copy, Debug)]
+pub enum Kernel<'a> {
+    /// They weren't looked at.
+    NotLookedAt,
+    Tables(&'a [Vec<&'a [u8]>]),
 }
 
 // A module and one of its aliases.
@@ -101,18 +110,34 @@ fn read_builtin<'a>(
     Ok(())
 }
 
-// The text of what both files say.
+// The text with the drivers of a kernel behind the modules.
+fn text_with(
+    alloc: Global,
+    modules: &mut Modules,
+    kernel: Kernel<'_>,
+) -> Result<Vec<u8>, AllocError> {
+    match kernel {
+        Kernel::NotLookedAt => modules.text(alloc, NOT_LOOKED_AT.as_bytes()),
+        Kernel::Tables(tables) => {
+            add_tables(alloc, modules, tables)?;
+            modules.text(alloc, b"")
+        }
+    }
+}
+
+// The text of what both files and the kernel say.
 fn read_all<'a>(
     alloc: Global,
     hasher: RandomState,
     unsaid: &mut Vec<Unsaid<'a>>,
     aliases: &'a [u8],
     builtin: &'a [u8],
+    kernel: Kernel<'_>,
 ) -> Result<Vec<u8>, AllocError> {
     let mut modules = Modules::new(alloc, hasher);
     read_aliases(alloc, &mut modules, unsaid, aliases)?;
     read_builtin(alloc, &mut modules, unsaid, builtin)?;
-    modules.text(alloc)
+    text_with(alloc, &mut modules, kernel)
 }
 
 // The text, once it was read back.
@@ -126,18 +151,21 @@ fn read_back(alloc: Global, hasher: RandomState, text: Vec<u8>) -> Result<Vec<u8
 }
 
 /// A driver file of the modules that these two files name, a line a module in order of first sight, with each string that the module
-/// matches once; and the aliases of devicetrees that no driver file can say. Aliases of other buses are passed over. What comes out is
-/// read by `read_drivers`: it was, before it is given out.
+/// matches once; and the aliases of devicetrees that no driver file can say. Aliases of other buses are passed over. Behind the modules
+/// stands a line for each table of the kernel that has a string which none of them matches, named by its first string; where the
+/// kernel wasn't looked at, the head of the file says so (`NOT_LOOKED_AT`). What comes out is read by `read_drivers`: it was, before it
+/// is given out.
 pub fn module_drivers<'a>(
     alloc: Global,
     hasher: RandomState,
     aliases: &'a [u8],
     builtin: &'a [u8],
+    kernel: Kernel<'_>,
 ) -> Result<ModuleDrivers<'a>, PlanError>
     ensures { IfOk result (λ made. IsDriverFile made.text.items) }
 {
     let mut unsaid = Vec::new(alloc);
-    let text = read_all(alloc, hasher, &mut unsaid, aliases, builtin)?;
+    let text = read_all(alloc, hasher, &mut unsaid, aliases, builtin, kernel)?;
     let text = read_back(alloc, hasher, text)?;
     Ok(ModuleDrivers { text, unsaid })
 }

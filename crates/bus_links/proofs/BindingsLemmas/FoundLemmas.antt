@@ -4,7 +4,7 @@ use Rattle.bus_links.specs.Bindings.Interrupts.{controller_of}
 use Rattle.dt_tree.specs.Cell.{cell_in}
 use Rattle.bus_links.specs.Bindings.Bindings.{Listing}
 use Rattle.bus_links.specs.Bindings.LinkNodes.{LinkNode, place_with}
-use Rattle.bus_links.specs.Bindings.Mentions.{FoundData, nothing, and_then, mentioned, fault, lines_within, cells_before, EntryData, entry_at, found_within}
+use Rattle.bus_links.specs.Bindings.Mentions.{FoundData, nothing, and_then, mentioned, fault, lines_within, cells_before, goes_on, EntryData, entry_at, found_within}
 
 pub and_then-assoc : (f g h : FoundData) → and_then (and_then f g) h ≡ and_then f (and_then g h)
 and_then-assoc f g h = λ i. record { mentions = append_assoc f.mentions g.mentions h.mentions i; faults = append_assoc f.faults g.faults h.faults i }
@@ -36,10 +36,15 @@ module _ (nodes : List LinkNode) (own : ℕ) (listing : Listing) (property : Lis
   found-skipped zero value phandle h e s = absurd (omega arith)
   found-skipped (suc k) value phandle h e s = let one : suc k - 1 ≡ k = omega arith in rw one (rw e (rw s refl))
 
-  pub found-empty : (left : ℕ) (value : List ℕ) (phandle : ℕ) → cell_in (take 4 value) ≡ Some phandle → (skipped == 0) ≡ true → (phandle == 0) ≡ true
+  pub found-empty : (left : ℕ) (value : List ℕ) (phandle : ℕ) → cell_in (take 4 value) ≡ Some phandle → (skipped == 0) ≡ true → (phandle == 0) ≡ true → goes_on listing ≡ false
       → found_within nodes own listing property entry skipped left value ≡ nothing
-  found-empty zero value phandle e s t = refl
-  found-empty (suc k) value phandle e s t = rw e (rw s (rw t refl))
+  found-empty zero value phandle e s t g = refl
+  found-empty (suc k) value phandle e s t g = rw e (rw s (rw t (rw g refl)))
+
+  pub found-passed : (left : ℕ) (value : List ℕ) (phandle : ℕ) → 0 < left → cell_in (take 4 value) ≡ Some phandle → (skipped == 0) ≡ true → (phandle == 0) ≡ true → goes_on listing ≡ true
+      → found_within nodes own listing property (entry + 1) skipped (left - 1) (drop 4 value) ≡ found_within nodes own listing property entry skipped left value
+  found-passed zero value phandle h e s t g = absurd (omega arith)
+  found-passed (suc k) value phandle h e s t g = let one : suc k - 1 ≡ k = omega arith in rw one (rw e (rw s (rw t (rw g refl))))
 
   pub found-fault : (left : ℕ) (value : List ℕ) (phandle : ℕ) → 0 < left → cell_in (take 4 value) ≡ Some phandle → (skipped == 0) ≡ true → (phandle == 0) ≡ false
       → entry_at listing nodes own (drop 4 value) (place_with nodes phandle) ≡ None → found_within nodes own listing property entry skipped left value ≡ fault property entry

@@ -1,7 +1,7 @@
 -- A walk over a tree, node by node.
-use Rattle.std.proofs.Common.{◌≡◌, ◌∙◌, ap, sym, refl, ℕ, ◌+◌, ◌≤◌, List, length, drop}
+use Rattle.std.proofs.Common.{◌≡◌, ◌∙◌, ap, sym, ℕ, ◌≤◌, List, length, drop}
 use Rattle.std.proofs.lemmas.List.{at_drop_all}
-use Rattle.dt_tree.specs.NodeData.{Siblings, none, more, NodeData, siblings}
+use Rattle.dt_tree.specs.NodeData.{Siblings, more, NodeData, siblings}
 use Rattle.dt_tree.specs.Private.PhandleWalk.{unreserved}
 use Rattle.bus_links.specs.Bindings.LinkNodes.{Above, Met, here, with_node, with_siblings}
 use Rattle.bus_links.specs.Bindings.Private.Walk.{with_tree}

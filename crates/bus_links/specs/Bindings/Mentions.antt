@@ -1,11 +1,11 @@
 -- Which nodes a device's properties name: what their bindings list, entry by entry. An entry that is malformed or leads nowhere ends
--- its property's list and is a fault; so does, without a fault, one that is left empty (0).
+-- its property's list and is a fault; so does, without a fault, one that is left empty (0), where its binding allows none.
 use Rattle.std.specs.Prelude.{ℕ, zero, suc, ◌+◌, ◌-◌, ◌*◌, Bool, true, false, not, ◌&&◌, ◌||◌, ◌==◌, nat_le, codes, if◌then◌else◌, List, [], ◌∷◌, ◌++◌, length, take, drop, Option, Some, None, option_and_then}
 use Rattle.std.specs.Option.{option_map, option_map_or}
 use Rattle.std.specs.Str.{bytes_eq}
 use Rattle.dt_tree.specs.declared.property.Property.{Property}
 use Rattle.dt_tree.specs.Cell.{cell_in}
-use Rattle.bus_links.specs.Bindings.Bindings.{Listing, counted, bare, endpoint, mapped, controllers, lines, Binding, binding_of}
+use Rattle.bus_links.specs.Bindings.Bindings.{Listing, counted, sparse, bare, mapped, controllers, lines, Binding, binding_of}
 use Rattle.bus_links.specs.Bindings.Interrupts.{has, number_in, interrupt_parent, controller_of}
 use Rattle.bus_links.specs.Bindings.LinkNodes.{LinkNode, node_at, place_with}
 
@@ -40,18 +40,18 @@ fault property entry = record { mentions = []; faults = record { property = prop
 -- how many cells stand behind a phandle that leads to this node
 abbrev pub cells_behind : Listing → List LinkNode → ℕ → Option ℕ
 cells_behind (counted name) nodes node = number_in nodes node name
+cells_behind (sparse name) nodes node = number_in nodes node name
 cells_behind controllers nodes node = number_in nodes node (codes "#interrupt-cells")
 cells_behind mapped nodes node = Some 2
 cells_behind bare nodes node = Some 0
-cells_behind endpoint nodes node = Some 0
 cells_behind lines nodes node = Some 0
 
 -- the node that an entry of this node means, with these bytes of its own behind the phandle
 abbrev pub meant : Listing → List LinkNode → ℕ → ℕ → List ℕ → Option ℕ
 meant controllers nodes own node bytes = controller_of nodes own node bytes
 meant (counted name) nodes own node bytes = Some node
+meant (sparse name) nodes own node bytes = Some node
 meant bare nodes own node bytes = Some node
-meant endpoint nodes own node bytes = Some node
 meant mapped nodes own node bytes = Some node
 meant lines nodes own node bytes = Some node
 
@@ -59,10 +59,19 @@ meant lines nodes own node bytes = Some node
 abbrev pub cells_before : Listing → ℕ
 cells_before mapped = 1
 cells_before (counted name) = 0
+cells_before (sparse name) = 0
 cells_before bare = 0
-cells_before endpoint = 0
 cells_before controllers = 0
 cells_before lines = 0
+
+-- an entry that is left empty is passed over
+abbrev pub goes_on : Listing → Bool
+goes_on (sparse name) = true
+goes_on (counted name) = false
+goes_on bare = false
+goes_on mapped = false
+goes_on controllers = false
+goes_on lines = false
 
 -- an entry whose phandle leads to this node, with these bytes left behind it: the node that it means, and how many cells are its own
 pub record EntryData : Type 0 where
@@ -85,7 +94,7 @@ found_within nodes own listing property entry skipped (suc left) value =
     option_map_or
     (λ phandle.
     if skipped == 0
-    then (if phandle == 0 then nothing
+    then (if phandle == 0 then (if goes_on listing then found_within nodes own listing property (entry + 1) skipped left (drop 4 value) else nothing)
     else option_map_or
     (λ e. and_then (mentioned property entry e.node) (found_within nodes own listing property (entry + 1) (e.cells + cells_before listing) left (drop 4 value)))
     (entry_at listing nodes own (drop 4 value) (place_with nodes phandle)) (fault property entry))
@@ -122,15 +131,13 @@ abbrev pub found_listed : List LinkNode → ℕ → Listing → Property → Fou
 found_listed nodes own lines p = found_lines nodes p.name own p.value
 found_listed nodes own (counted name) p = found_in nodes own (counted name) p.name 0 p.value
 found_listed nodes own bare p = found_in nodes own bare p.name 0 p.value
-found_listed nodes own endpoint p = found_in nodes own endpoint p.name 0 (take 4 p.value)
+found_listed nodes own (sparse name) p = found_in nodes own (sparse name) p.name 0 p.value
 found_listed nodes own mapped p = found_in nodes own mapped p.name 1 p.value
 found_listed nodes own controllers p = found_in nodes own controllers p.name 0 p.value
 
--- a hog's lines are no device's, and `interrupts-extended` stands over `interrupts`
+-- `interrupts-extended` stands over `interrupts`
 abbrev pub is_passed_over : List LinkNode → ℕ → List ℕ → Bool
-is_passed_over nodes own name =
-    ((bytes_eq name (codes "gpios") || bytes_eq name (codes "gpio")) && has nodes own (codes "gpio-hog"))
-    || (bytes_eq name (codes "interrupts") && has nodes own (codes "interrupts-extended"))
+is_passed_over nodes own name = bytes_eq name (codes "interrupts") && has nodes own (codes "interrupts-extended")
 
 abbrev pub counts : Bool → Binding → Bool
 counts strict b = not b.optional || strict

@@ -1,5 +1,5 @@
 -- Which links the code counts.
-use Rattle.std.specs.Prelude.{ℕ, Bool, List}
+use Rattle.std.specs.Prelude.{Bool, List}
 use Rattle.bus_links.specs.Links.{LinkData}
 use Rattle.bus_links.specs.LinkPlan.{is_counted, is_waited_for}
 use Rattle.bus_links.specs.declared.relaxing.Counting.{Counting}

@@ -2,7 +2,7 @@
 ghost use Rattle.std.specs.Prelude.{◌≡◌, ◌*◌, IfOk, OnOk, length, take};
 ghost use Rattle.bus_links.specs.Bindings.LinkNodes.{place_with};
 ghost use Rattle.bus_links.specs.Bindings.BindingView.{is_strict, listing_data};
-ghost use Rattle.bus_links.specs.Bindings.Mentions.{and_then, mentioned, fault, nothing, cells_behind, meant, cells_before, entry_at, found_in, lines_within, lines_at, found_lines, found_listed, is_passed_over, found_by, found_among, found_at};
+ghost use Rattle.bus_links.specs.Bindings.Mentions.{and_then, mentioned, fault, nothing, cells_behind, meant, cells_before, goes_on, entry_at, found_in, lines_within, lines_at, found_lines, found_listed, is_passed_over, found_by, found_among, found_at};
 
 use crate::bindings::binding::{Binding, Listing, Strictness};
 use crate::bindings::interrupts::{controller_of, interrupt_parent};
@@ -63,10 +63,10 @@ fn cells_behind(nodes: &Nodes<'_>, listing: Listing, node: usize) -> Option<u32>
     ensures { result ≡ cells_behind (listing_data listing) nodes.now node }
 {
     let name = match listing {
-        Listing::Counted(name) => name,
+        Listing::Counted(name) | Listing::Sparse(name) => name,
         Listing::Controllers => b"#interrupt-cells",
         Listing::Mapped => return Some(2),
-        Listing::Bare | Listing::Endpoint | Listing::Lines => return Some(0),
+        Listing::Bare | Listing::Lines => return Some(0),
     };
     number(nodes, node, name)
 }
@@ -77,6 +77,16 @@ fn cells_before(listing: Listing) -> usize
     match listing {
         Listing::Mapped => 1,
         _ => 0,
+    }
+}
+
+// Whether an entry that is left empty is passed over.
+fn goes_on(listing: Listing) -> bool
+    ensures { result ≡ goes_on (listing_data listing) }
+{
+    match listing {
+        Listing::Sparse(_) => true,
+        _ => false,
     }
 }
 
@@ -122,7 +132,12 @@ impl<'t> Found<'t> {
         self.faults.as_slice()
     }
 
-    fn add(&mut self, property: &'t [u8], entry: usize, node: usize) -> Result<(), AllocError>
+    pub(super) fn add(
+        &mut self,
+        property: &'t [u8],
+        entry: usize,
+        node: usize,
+    ) -> Result<(), AllocError>
         ensures { OnOk result (self.new ≡ and_then self.old (mentioned property.now entry node)) }
     {
         self.mentions.push(Mention {
@@ -133,7 +148,7 @@ impl<'t> Found<'t> {
         Ok(())
     }
 
-    fn add_fault(&mut self, property: &'t [u8], entry: usize) -> Result<(), AllocError>
+    pub(super) fn add_fault(&mut self, property: &'t [u8], entry: usize) -> Result<(), AllocError>
         ensures { OnOk result (self.new ≡ and_then self.old (fault property.now entry)) }
     {
         self.faults.push(Fault { property, entry })?;
@@ -186,14 +201,10 @@ fn entry_of(
     }
 }
 
-// Whether a property of the node is passed over: a hog's lines, and `interrupts` beside `interrupts-extended`.
+// Whether a property of the node is passed over: `interrupts` beside `interrupts-extended`.
 fn is_passed_over(nodes: &Nodes<'_>, own: usize, name: &[u8]) -> bool
     ensures { result ≡ is_passed_over nodes.now own name.now }
 {
-    let is_gpio = name == b"gpios".as_slice() || name == b"gpio".as_slice();
-    if is_gpio && has(nodes, own, b"gpio-hog") {
-        return true;
-    }
     name == b"interrupts".as_slice() && has(nodes, own, b"interrupts-extended")
 }
 
@@ -227,7 +238,11 @@ impl<'t> Found<'t> {
                 continue;
             }
             if phandle == 0 {
-                return Ok(());
+                if !goes_on(listing) {
+                    return Ok(());
+                }
+                entry += 1;
+                continue;
             }
             let Some(named) = entry_of(alloc, nodes, listing, own, phandle, rest)? else {
                 return self.add_fault(property, entry);
@@ -339,11 +354,9 @@ impl<'t> Found<'t> {
         let value = property.value.as_slice();
         match listing {
             Listing::Lines => self.add_lines(alloc, nodes, own, property),
-            Listing::Endpoint => {
-                self.add_entries(alloc, nodes, own, listing, name, before(value, 4), 0)
-            }
             Listing::Mapped => self.add_entries(alloc, nodes, own, listing, name, value, 1),
             Listing::Counted(_) => self.add_entries(alloc, nodes, own, listing, name, value, 0),
+            Listing::Sparse(_) => self.add_entries(alloc, nodes, own, listing, name, value, 0),
             Listing::Bare => self.add_entries(alloc, nodes, own, listing, name, value, 0),
             Listing::Controllers => self.add_entries(alloc, nodes, own, listing, name, value, 0),
         }

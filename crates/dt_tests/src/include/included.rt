@@ -20,47 +20,72 @@ fn comes_to(rt: &impl Abort, alloc: Global, row: &Row) {
     }
 }
 
+const TEXTS: &[Row] = &[
+    ("x;", "x;", &[]),
+    (
+        "x; /include/ \"one\" w;",
+        "x; \n# 1 \"one\"\ny;\n\n# 1 \"a.dts\"\n w;",
+        &[],
+    ),
+    // words over two lines, and a marker of the user's
+    (
+        "\n# 7 \"b.dtsi\"\n/include/\n\"empty\"v;",
+        "\n# 7 \"b.dtsi\"\n\n# 1 \"empty\"\n\n# 8 \"b.dtsi\"\nv;",
+        &[],
+    ),
+    // a gap between the words
+    (
+        "/include/ // its name\n/* */\"empty\"",
+        "\n# 1 \"empty\"\n\n# 2 \"a.dts\"\n",
+        &[],
+    ),
+    // a comment and a string hold none
+    (
+        "/* /include/ \"one\" */ \"/include/ \\\"one\\\"\" // /include/ \"one\"",
+        "/* /include/ \"one\" */ \"/include/ \\\"one\\\"\" // /include/ \"one\"",
+        &[],
+    ),
+    (
+        "'\"' /* /include/ \"one\"",
+        "'\"' /* /include/ \"one\"",
+        &[],
+    ),
+    // nor does a character literal, which goes on behind an apostrophe with a backslash before it, where another follows
+    ("'\\' /include/ \"one\" '", "'\\' /include/ \"one\" '", &[]),
+    (
+        "'\\'/include/ \"one\"",
+        "'\\'\n# 1 \"one\"\ny;\n\n# 1 \"a.dts\"\n",
+        &[],
+    ),
+    // a keyword may have a comment right behind it
+    (
+        "/dts-v1//* 1 */; /include/ \"empty\"",
+        "/dts-v1//* 1 */; \n# 1 \"empty\"\n\n# 1 \"a.dts\"\n",
+        &[],
+    ),
+    (
+        "/bits//* it's */32/include/ \"empty\"",
+        "/bits//* it's */32\n# 1 \"empty\"\n\n# 1 \"a.dts\"\n",
+        &[],
+    ),
+    (
+        "/omit-if-no-ref//incbin//include/ \"empty\"",
+        "/omit-if-no-ref//incbin/\n# 1 \"empty\"\n\n# 1 \"a.dts\"\n",
+        &[],
+    ),
+    // what is no keyword has a comment behind its slashes
+    ("/bit//include/ \"empty\"", "/bit//include/ \"empty\"", &[]),
+    // a comment of a line ends with its file
+    (
+        "/include/ \"line\" w;",
+        "\n# 1 \"line\"\ny; // a\n# 1 \"a.dts\"\n w;",
+        &[],
+    ),
+];
+
 #[test]
 fn texts_in_place_of_words(rt: HostRuntime) {
-    const ROWS: &[Row] = &[
-        ("x;", "x;", &[]),
-        (
-            "x; /include/ \"one\" w;",
-            "x; \n# 1 \"one\"\ny;\n\n# 1 \"a.dts\"\n w;",
-            &[],
-        ),
-        // words over two lines, and a marker of the user's
-        (
-            "\n# 7 \"b.dtsi\"\n/include/\n\"empty\"v;",
-            "\n# 7 \"b.dtsi\"\n\n# 1 \"empty\"\n\n# 8 \"b.dtsi\"\nv;",
-            &[],
-        ),
-        // a gap between the words
-        (
-            "/include/ // its name\n/* */\"empty\"",
-            "\n# 1 \"empty\"\n\n# 2 \"a.dts\"\n",
-            &[],
-        ),
-        // a comment and a string hold none
-        (
-            "/* /include/ \"one\" */ \"/include/ \\\"one\\\"\" // /include/ \"one\"",
-            "/* /include/ \"one\" */ \"/include/ \\\"one\\\"\" // /include/ \"one\"",
-            &[],
-        ),
-        (
-            "'\"' /* /include/ \"one\"",
-            "'\"' /* /include/ \"one\"",
-            &[],
-        ),
-        // nor does a character literal, which goes on behind an apostrophe with a backslash before it, where another follows
-        ("'\\' /include/ \"one\" '", "'\\' /include/ \"one\" '", &[]),
-        (
-            "'\\'/include/ \"one\"",
-            "'\\'\n# 1 \"one\"\ny;\n\n# 1 \"a.dts\"\n",
-            &[],
-        ),
-    ];
-    for row in ROWS {
+    for row in TEXTS {
         comes_to(&rt, rt.alloc(), row);
     }
 }

@@ -15,6 +15,11 @@ const FILES: &[(&str, &[u8])] = &[
     ("two", b"/include/ \"one\"z = /incbin/(\"own\");"),
     ("bin", b"\x00\"\xff"),
     ("empty", b""),
+    ("string", b"y;\np = \"a"),
+    ("character", b"<'"),
+    ("comment", b"/* a */ /* b\n"),
+    ("behind", b"/include/ \"one\" \""),
+    ("line", b"y; // a"),
 ];
 
 /// The file whose bytes are the path of the file that names it.

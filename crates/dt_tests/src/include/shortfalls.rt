@@ -47,12 +47,17 @@ fn words_that_take_nothing_in(rt: HostRuntime) {
         ("/include/ \"self\"", 16, ("self", 2), (2, 18)),
         // behind words that were taken, and by a line marker
         (
-            "/include/ \"bin\"\n/incbin/(\"bin\")\n /include/ 5",
+            "/include/ \"one\"\n/incbin/(\"bin\")\n /include/ 5",
             10,
             ("a.dts", 3),
             (12, 13),
         ),
         ("/include/ \"marked\"", 10, ("m.dts", 10), (12, 13)),
+        // what a file that is taken in leaves open
+        ("/include/ \"string\" \"", 10, ("string", 2), (5, 6)),
+        ("/include/ \"character\"'>;", 10, ("character", 1), (2, 3)),
+        ("/include/ \"comment\" */", 10, ("comment", 1), (9, 11)),
+        ("/include/ \"behind\" \"", 10, ("behind", 1), (17, 18)),
     ];
     for row in ROWS {
         stops_short(&rt, rt.alloc(), row);

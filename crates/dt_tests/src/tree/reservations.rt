@@ -100,6 +100,8 @@ fn is_not_reserved(rt: HostRuntime) {
     assert_eq!(&rt; told(end), Some(PatchError::Short(106)));
     let end = add_reservation(bytes.as_mut_slice(), 0, 0);
     assert_eq!(&rt; told(end), Some(PatchError::EndPair));
+    let end = add_reservation(bytes.as_mut_slice(), u64::MAX, 0);
+    assert_eq!(&rt; told(end), Some(PatchError::EndPair));
     let end = delete_reservation(bytes.as_mut_slice(), 0);
     assert_eq!(&rt; told(end), Some(PatchError::NoReservation));
     let mut old = changed(&rt, alloc, ONE_CELL, 0x14, 16);

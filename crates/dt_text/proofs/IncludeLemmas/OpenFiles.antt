@@ -1,5 +1,5 @@
 -- What open files come to, turn by turn.
-use Rattle.std.proofs.Common.{Global, ◌≡◌, ℕ, zero, suc, ◌-◌, ◌<◌, ◌≤◌, true, false, List, [], ◌∷◌, ◌++◌, length, take, drop, refl, sym, ap, subst, ◌∙◌, arith}
+use Rattle.std.proofs.Common.{Global, ◌≡◌, ℕ, zero, suc, ◌-◌, ◌<◌, ◌≤◌, Bool, true, false, List, [], ◌∷◌, ◌++◌, length, take, drop, refl, sym, ap, subst, ◌∙◌, arith}
 use Rattle.std.specs.Prelude.{Vec}
 use Rattle.std.proofs.lemmas.List.{append_assoc, append-nil}
 use Rattle.std.proofs.Math.Seq.{drop-nil}
@@ -17,7 +17,7 @@ use Rattle.dt_text.specs.Include.Inclusion.{Includes, IncludesFrom, Piece, behin
 use Rattle.dt_text.specs.Include.Private.Included.{Behind, ComesTo, Completes, Enters, Goes, IsPassed, PassedBy, TurnsTo, first_marker, first_put, passed_text, place_on, stands_for, stay, words_of}
 use Rattle.dt_text.specs.Include.Private.Places.{place_of}
 use Rattle.dt_text.specs.Include.UserLines.{UserPlace, first_of, marker_line, marker_of, place_behind, plain_of}
-use Rattle.dt_text.specs.Include.Words.{HasNext, HoldsNone, NamesFile, Passes, name_of}
+use Rattle.dt_text.specs.Include.Words.{HasNext, MayEnd, NamesFile, Passes, name_of}
 use Rattle.dt_text.proofs.IncludeLemmas.Pieces.{adds_nothing, adds_text}
 use Rattle.dt_text.proofs.IncludeLemmas.UserPlaces.{behind_nothing}
 use Rattle.dt_text.proofs.IncludeLemmas.WordEnds.{cut_before, passes_ends, words_between, words_end, words_long}
@@ -40,6 +40,7 @@ not_passed frame whole none = record {
   line_is = sym (unmoved frame none);
   grown_is = adds_nothing whole;
   path_is = refl;
+  nested_is = refl;
   bytes_is = refl;
   words_is = refl;
 }
@@ -59,7 +60,7 @@ put_by (suc n) text put lt h = h
 
 -- words are passed that stay, or for which a marker stands
 module _ (old new : Frame) (whole grown : Whole) (words : List ℕ) (some : 0 < old.words.end) (is : words ≡ words_of old) (line : place_of new.line ≡ place_behind (place_of old.line) words)
-    (path : new.path ≡ old.path) (bytes : new.bytes ≡ old.bytes) (same : new.words ≡ old.words) (files : grown.binaries ≡ whole.binaries) where
+    (path : new.path ≡ old.path) (nested : new.nested ≡ old.nested) (bytes : new.bytes ≡ old.bytes) (same : new.words ≡ old.words) (files : grown.binaries ≡ whole.binaries) where
   on_line : place_of new.line ≡ place_on old
   on_line = line ∙ ap (place_behind (place_of old.line)) is
 
@@ -70,6 +71,7 @@ module _ (old new : Frame) (whole grown : Whole) (words : List ℕ) (some : 0 < 
     line_is = on_line;
     grown_is = adds_text whole grown text more files;
     path_is = path;
+    nested_is = nested;
     bytes_is = bytes;
     words_is = same;
   }
@@ -106,6 +108,7 @@ pub record Reading (old frame new : Frame) (inclusion : Inclusion) (whole passed
   pub next : Passes left at × NamesFile at inclusion rest
   pub before_is : before ≡ take (length left - length at) left
   pub path_is : new.path ≡ frame.path
+  pub nested_is : new.nested ≡ frame.nested
   pub bytes_is : new.bytes ≡ frame.bytes
   pub starts_at : new.words.start ≡ length frame.bytes.items - length at
   pub ends_at : new.words.end ≡ length frame.bytes.items - length rest
@@ -126,6 +129,9 @@ module _ (old frame new : Frame) (inclusion : Inclusion) (whole passed : Whole) 
 
   pub path_of : old.path ≡ new.path
   path_of = sym (r.path_is ∙ r.passed_is.path_is)
+
+  pub nested_of : new.nested ≡ old.nested
+  nested_of = r.nested_is ∙ r.passed_is.nested_is
 
   ends : (r.rest ≡ drop (length frame.bytes.items - length r.rest) frame.bytes.items) × (0 < length frame.bytes.items - length r.rest)
   ends = words_end frame.bytes.items r.left r.at r.rest frame.words.end inclusion r.left_is r.next.0 r.next.1
@@ -193,17 +199,17 @@ module _ (Finds : List ℕ → List ℕ → Found → Type 0) where
   -- ---- one turn
 
   -- What is put for the words that were read last stands before all that follows.
-  passed_first : (old : Frame) (put more : List Piece) → Behind old put → IncludesFrom Finds old.path.items (place_on old) (drop old.words.end old.bytes.items) more
+  passed_first : (old : Frame) (put more : List Piece) → Behind old put → IncludesFrom Finds old.nested old.path.items (place_on old) (drop old.words.end old.bytes.items) more
       → ComesTo Finds old (put ++ more)
   passed_first old put more b h = record { passed = put; more = more; behind = b; rest = h; said_is = refl }
 
-  ends_with : (old : Frame) (put : List Piece) (left : List ℕ) → Behind old put → left ≡ drop old.words.end old.bytes.items → HoldsNone left → ComesTo Finds old (put ++ plain left)
+  ends_with : (old : Frame) (put : List Piece) (left : List ℕ) → Behind old put → left ≡ drop old.words.end old.bytes.items → MayEnd old.nested left → ComesTo Finds old (put ++ plain left)
   ends_with old put left b is h =
-      passed_first old put (plain left) b (subst (λ (t : List ℕ). IncludesFrom Finds old.path.items (place_on old) t (plain left)) is (itself h))
+      passed_first old put (plain left) b (subst (λ (t : List ℕ). IncludesFrom Finds old.nested old.path.items (place_on old) t (plain left)) is (itself h))
 
   -- what is left of a file behind words
   marked : (frame : Frame) (own : List Piece) → 0 < frame.words.end → ComesTo Finds frame own
-      → (more : List Piece) × IncludesFrom Finds frame.path.items (place_on frame) (drop frame.words.end frame.bytes.items) more × (own ≡ plain (passed_text frame) ++ more)
+      → (more : List Piece) × IncludesFrom Finds frame.nested frame.path.items (place_on frame) (drop frame.words.end frame.bytes.items) more × (own ≡ plain (passed_text frame) ++ more)
   marked frame own some h = (h.more, h.rest, h.said_is ∙ ap (λ (t : List Piece). t ++ h.more) (put_by frame.words.end (passed_text frame) h.passed some h.behind))
 
   module _ (old frame new : Frame) (inclusion : Inclusion) (whole passed : Whole) (r : Reading old frame new inclusion whole passed) where
@@ -212,20 +218,21 @@ module _ (Finds : List ℕ → List ℕ → Found → Type 0) where
 
     -- what follows the words in the file
     goes_on : (own : List Piece) → ComesTo Finds new own
-        → (more : List Piece) × IncludesFrom Finds old.path.items place r.rest more × (own ≡ plain (stands_for (stay inclusion) (words_of new) place) ++ more)
+        → (more : List Piece) × IncludesFrom Finds old.nested old.path.items place r.rest more × (own ≡ plain (stands_for (stay inclusion) (words_of new) place) ++ more)
     goes_on own h =
         let m = marked new own (some_words old frame new inclusion whole passed r) h in (
           m.0,
-          subst (λ (p : UserPlace). IncludesFrom Finds old.path.items p r.rest m.0) (reached old frame new inclusion whole passed r)
-              (subst (λ (p : Vec ℕ Global). IncludesFrom Finds p.items (place_on new) r.rest m.0) (sym (path_of old frame new inclusion whole passed r))
-              (subst (λ (t : List ℕ). IncludesFrom Finds new.path.items (place_on new) t m.0) (rest_of old frame new inclusion whole passed r) m.1)),
+          subst (λ (p : UserPlace). IncludesFrom Finds old.nested old.path.items p r.rest m.0) (reached old frame new inclusion whole passed r)
+              (subst (λ (b : Bool). IncludesFrom Finds b old.path.items (place_on new) r.rest m.0) (nested_of old frame new inclusion whole passed r)
+              (subst (λ (p : Vec ℕ Global). IncludesFrom Finds new.nested p.items (place_on new) r.rest m.0) (sym (path_of old frame new inclusion whole passed r))
+              (subst (λ (t : List ℕ). IncludesFrom Finds new.nested new.path.items (place_on new) t m.0) (rest_of old frame new inclusion whole passed r) m.1))),
           m.2 ∙ ap (λ (t : List ℕ). plain t ++ m.0) (stands old frame new inclusion whole passed r),
         )
 
-    whole_of : (more : List Piece) → IncludesFrom Finds old.path.items (place_on old) r.left more → ComesTo Finds old (r.passed_is.put ++ more)
+    whole_of : (more : List Piece) → IncludesFrom Finds old.nested old.path.items (place_on old) r.left more → ComesTo Finds old (r.passed_is.put ++ more)
     whole_of more h =
         passed_first old r.passed_is.put more r.passed_is.behind
-        (subst (λ (t : List ℕ). IncludesFrom Finds old.path.items (place_on old) t more) (sym (left_of old frame new inclusion whole passed r)) h)
+        (subst (λ (t : List ℕ). IncludesFrom Finds old.nested old.path.items (place_on old) t more) (sym (left_of old frame new inclusion whole passed r)) h)
 
   -- a source is taken in
   pub source_turns : (old frame new : Frame) (name : Bor (List ℕ)) (found : Found) (whole passed : Whole) (r : Reading old frame new (Source name) whole passed)
@@ -256,79 +263,84 @@ module _ (Finds : List ℕ → List ℕ → Found → Type 0) where
       (whole_of old frame new (Binary name) whole passed r (plain r.before ++ bytes ++ words ++ m.0) all)
 
   -- the file ends
-  pub ended : (old frame : Frame) (whole passed : Whole) (left : List ℕ) (p : IsPassed old frame whole passed) → left ≡ drop frame.words.end frame.bytes.items → HoldsNone left
+  pub ended : (old frame : Frame) (whole passed : Whole) (left : List ℕ) (p : IsPassed old frame whole passed) → left ≡ drop frame.words.end frame.bytes.items → MayEnd frame.nested left
       → TurnsTo Finds old frame End (p.put ++ plain left)
   ended old frame whole passed left p is h =
-      ends_with old p.put left p.behind (is ∙ ap (λ (w : Span). drop w.end frame.bytes.items) p.words_is ∙ ap (λ (b : Vec ℕ Global). drop old.words.end b.items) p.bytes_is) h
+      ends_with old p.put left p.behind (is ∙ ap (λ (w : Span). drop w.end frame.bytes.items) p.words_is ∙ ap (λ (b : Vec ℕ Global). drop old.words.end b.items) p.bytes_is)
+      (subst (λ (b : Bool). MayEnd b left) p.nested_is h)
 
   -- ---- the whole text
 
   -- what a file that was just opened comes to
-  pub just_opened : (frame : Frame) (own : List Piece) → frame.words.end ≡ 0 → place_of frame.line ≡ first_of frame.path.items → ComesTo Finds frame own → Includes Finds frame.path.items frame.bytes.items own
+  pub just_opened : (frame : Frame) (own : List Piece) → frame.words.end ≡ 0 → place_of frame.line ≡ first_of frame.path.items → ComesTo Finds frame own → Includes Finds frame.nested frame.path.items frame.bytes.items own
   just_opened frame own none first h =
-      subst (λ (p : UserPlace). IncludesFrom Finds frame.path.items p frame.bytes.items own) (unmoved frame none ∙ first) (by_number frame.words.end none h.passed h.more h.behind h.rest h.said_is)
+      subst (λ (p : UserPlace). IncludesFrom Finds frame.nested frame.path.items p frame.bytes.items own) (unmoved frame none ∙ first) (by_number frame.words.end none h.passed h.more h.behind h.rest h.said_is)
     where
-      by_number : (n : ℕ) → n ≡ 0 → (passed more : List Piece) → PassedBy n (passed_text frame) passed → IncludesFrom Finds frame.path.items (place_on frame) (drop n frame.bytes.items) more → own ≡ passed ++ more
-          → IncludesFrom Finds frame.path.items (place_on frame) frame.bytes.items own
-      by_number zero e passed more b i is = subst (IncludesFrom Finds frame.path.items (place_on frame) frame.bytes.items) (sym (is ∙ ap (λ (t : List Piece). t ++ more) b)) i
+      by_number : (n : ℕ) → n ≡ 0 → (passed more : List Piece) → PassedBy n (passed_text frame) passed → IncludesFrom Finds frame.nested frame.path.items (place_on frame) (drop n frame.bytes.items) more → own ≡ passed ++ more
+          → IncludesFrom Finds frame.nested frame.path.items (place_on frame) frame.bytes.items own
+      by_number zero e passed more b i is = subst (IncludesFrom Finds frame.nested frame.path.items (place_on frame) frame.bytes.items) (sym (is ∙ ap (λ (t : List Piece). t ++ more) b)) i
       by_number (suc n) e passed more b i is = absurd (omega (arith, e))
 
   -- what is put so far, and what the open files still come to, is what the text comes to
   abbrev pub IsUnderWay : List ℕ → List ℕ → List Frame → List Piece → Type 0
-  IsUnderWay path text frames said = (tail : List Piece) → Completes Finds frames tail → Includes Finds path text (said ++ tail)
+  IsUnderWay path text frames said = (tail : List Piece) → Completes Finds frames tail → Includes Finds false path text (said ++ tail)
 
-  begun : (path text : List ℕ) (frame : Frame) → frame.words.end ≡ 0 → place_of frame.line ≡ first_of path → frame.path.items ≡ path → frame.bytes.items ≡ text → IsUnderWay path text (frame ∷ []) []
-  begun path text frame none first same_path same_text tail h =
+  begun : (path text : List ℕ) (frame : Frame) → frame.words.end ≡ 0 → place_of frame.line ≡ first_of path → frame.path.items ≡ path → frame.nested ≡ false → frame.bytes.items ≡ text → IsUnderWay path text (frame ∷ []) []
+  begun path text frame none first same_path own same_text tail h =
       let s = split [] frame tail h in
       let is : s.0 ≡ tail = sym (append-nil s.0) ∙ ap (λ (t : List Piece). s.0 ++ t) (sym (done s.1 s.3)) ∙ sym s.4 in
-      subst (λ (t : List Piece). Includes Finds path text t) is
-      (subst (λ (p : List ℕ). Includes Finds p text s.0) same_path (subst (λ (t : List ℕ). Includes Finds frame.path.items t s.0) same_text (just_opened frame s.0 none (first ∙ ap first_of (sym same_path)) s.2)))
+      subst (λ (t : List Piece). Includes Finds false path text t) is
+      (subst (λ (b : Bool). Includes Finds b path text s.0) own
+      (subst (λ (p : List ℕ). Includes Finds frame.nested p text s.0) same_path
+      (subst (λ (t : List ℕ). Includes Finds frame.nested frame.path.items t s.0) same_text (just_opened frame s.0 none (first ∙ ap first_of (sym same_path)) s.2))))
 
-  over : (path text : List ℕ) (said : List Piece) → IsUnderWay path text [] said → Includes Finds path text said
-  over path text said h = subst (Includes Finds path text) (append-nil said) (h [] no_files)
+  over : (path text : List ℕ) (said : List Piece) → IsUnderWay path text [] said → Includes Finds false path text said
+  over path text said h = subst (Includes Finds false path text) (append-nil said) (h [] no_files)
 
   pub gone_on : (path text : List ℕ) (frames now : List Frame) (old new : Frame) (turn : Turn) (said put last : List Piece) → last ≡ said ++ put ++ first_put turn
       → IsUnderWay path text (frames ++ old ∷ []) said → TurnsTo Finds old new turn put → Goes frames new turn now → IsUnderWay path text now last
   gone_on path text frames now old new End said put last last_is inv turns goes tail h =
       let all = inv (put ++ tail) (opened frames old put tail turns (subst (λ (fs : List Frame). Completes Finds fs tail) goes h)) in
-      subst (Includes Finds path text) (sym (append_assoc said put tail) ∙ ap (λ (t : List Piece). t ++ tail) (sym (last_is ∙ append-nil (said ++ put)))) all
+      subst (Includes Finds false path text) (sym (append_assoc said put tail) ∙ ap (λ (t : List Piece). t ++ tail) (sym (last_is ∙ append-nil (said ++ put)))) all
   gone_on path text frames now old new Again said put last last_is inv turns goes tail h =
       let s = split frames new tail (subst (λ (fs : List Frame). Completes Finds fs tail) goes h) in
       let all = inv (put ++ s.0 ++ s.1) (opened frames old (put ++ s.0) s.1 (turns s.0 s.2) s.3) in
       let is : said ++ (put ++ s.0 ++ s.1) ≡ last ++ tail =
       ap (λ (t : List Piece). said ++ t) (append_assoc put s.0 s.1) ∙ sym (append_assoc said put (s.0 ++ s.1))
       ∙ ap (λ (t : List Piece). said ++ put ++ t) (sym s.4) ∙ ap (λ (t : List Piece). t ++ tail) (sym (last_is ∙ append-nil (said ++ put))) in
-      subst (Includes Finds path text) is all
+      subst (Includes Finds false path text) is all
   gone_on path text frames now old new (Into found) said put last last_is inv turns goes tail h =
       let s = split (frames ++ new ∷ []) goes.inner tail (subst (λ (fs : List Frame). Completes Finds fs tail) goes.opened_is h) in
       let r = split frames new s.1 s.3 in
       let first = first_marker found in
-      let inside = subst (λ (b : Vec ℕ Global). Includes Finds b.items found.bytes.items s.0) goes.path_is
-      (subst (λ (b : Vec ℕ Global). Includes Finds goes.inner.path.items b.items s.0) goes.bytes_is (just_opened goes.inner s.0 goes.words_is (goes.line_is ∙ ap (λ (b : Vec ℕ Global). first_of b.items) (sym goes.path_is)) s.2)) in
+      let inside = subst (λ (b : Vec ℕ Global). Includes Finds true b.items found.bytes.items s.0) goes.path_is
+      (subst (λ (b : Vec ℕ Global). Includes Finds true goes.inner.path.items b.items s.0) goes.bytes_is
+      (subst (λ (b : Bool). Includes Finds b goes.inner.path.items goes.inner.bytes.items s.0) goes.nested_is (just_opened goes.inner s.0 goes.words_is (goes.line_is ∙ ap (λ (b : Vec ℕ Global). first_of b.items) (sym goes.path_is)) s.2))) in
       let all = inv (put ++ first ++ s.0 ++ r.0 ++ r.1) (opened frames old (put ++ first ++ s.0 ++ r.0) r.1 (turns s.0 r.0 inside r.2) r.3) in
       let is : said ++ (put ++ first ++ s.0 ++ r.0 ++ r.1) ≡ last ++ tail =
       before-five said put first s.0 r.0 r.1 ∙ append_assoc (said ++ put ++ first) s.0 (r.0 ++ r.1)
       ∙ ap (λ (t : List Piece). said ++ put ++ first ++ t) (sym (s.4 ∙ ap (λ (t : List Piece). s.0 ++ t) r.4))
       ∙ ap (λ (t : List Piece). t ++ tail) (sym last_is) in
-      subst (Includes Finds path text) is all
+      subst (Includes Finds false path text) is all
 
   -- ---- the same, at the places of the code
 
   pub begun_at : (path text : List ℕ) (frames : List Frame) (frame : Frame) → frames ≡ frame ∷ [] → frame.words.end ≡ 0 → frame.line.file.items ≡ plain_of path → frame.line.line ≡ 1
-      → frame.path.items ≡ path → frame.bytes.items ≡ text → IsUnderWay path text frames []
-  begun_at path text frames frame one words file line same_path same_text =
-      subst (λ (fs : List Frame). IsUnderWay path text fs []) (sym one) (begun path text frame words (at_first frame.line path file line) same_path same_text)
+      → frame.path.items ≡ path → frame.nested ≡ false → frame.bytes.items ≡ text → IsUnderWay path text frames []
+  begun_at path text frames frame one words file line same_path own same_text =
+      subst (λ (fs : List Frame). IsUnderWay path text fs []) (sym one) (begun path text frame words (at_first frame.line path file line) same_path own same_text)
 
-  pub over_at : (path text : List ℕ) (said : List Piece) (frames : List Frame) → frames ≡ [] → IsUnderWay path text frames said → Includes Finds path text said
+  pub over_at : (path text : List ℕ) (said : List Piece) (frames : List Frame) → frames ≡ [] → IsUnderWay path text frames said → Includes Finds false path text said
   over_at path text said frames none h = over path text said (subst (λ (fs : List Frame). IsUnderWay path text fs said) none h)
 
 -- A file is opened within the others.
-pub entered : (frames pushed now : List Frame) (frame inner : Frame) (found : Found) (name : List ℕ) → inner.path ≡ found.path → inner.bytes ≡ found.bytes → inner.words.end ≡ 0
+pub entered : (frames pushed now : List Frame) (frame inner : Frame) (found : Found) (name : List ℕ) → inner.path ≡ found.path → inner.nested ≡ true → inner.bytes ≡ found.bytes → inner.words.end ≡ 0
     → pushed ≡ frames ++ frame ∷ [] → now ≡ pushed ++ inner ∷ [] → name ≡ found.path.items → inner.line.file.items ≡ plain_of name → inner.line.line ≡ 1
     → Enters frames frame found now
-entered frames pushed now frame inner found name path bytes words push open_is name_is file line = record {
+entered frames pushed now frame inner found name path nested bytes words push open_is name_is file line = record {
   inner = inner;
   path_is = path;
+  nested_is = nested;
   bytes_is = bytes;
   words_is = words;
   line_is = at_first inner.line found.path.items (file ∙ ap plain_of name_is) line;

@@ -17,7 +17,7 @@ use Rattle.dt_text.specs.Include.Inclusion.{Includes, Piece, itself, named, plai
 use Rattle.dt_text.specs.Include.Private.Included.{Adds, Behind, Completes, Goes, IsPassed, IsTaken, IsTurned, PassedBy, PutsFrom, PutsTo, TurnsTo, behind_words, first_marker, first_put, not_yet, passed_text, stands_for, stay, wanting, words_of}
 use Rattle.dt_text.specs.Include.Shortfall.{IsTooLong, Puts, before_words, file, inside, nothing, past_binary, past_source, whole}
 use Rattle.dt_text.specs.Include.UserLines.{UserPlace, marker_line, plain_of}
-use Rattle.dt_text.specs.Include.Words.{HasNext, HoldsNone, name_of}
+use Rattle.dt_text.specs.Include.Words.{HasNext, MayEnd, name_of}
 use Rattle.dt_text.proofs.IncludeLemmas.OpenFiles.{Reading, all_of, before-five, before-four, before-three, binary_turns, done, ended, found_by, left_of, long_words, no_files, path_of, put_by, reached_place, rest_of, some_words, source_turns, split, stands}
 use Rattle.dt_text.proofs.IncludeLemmas.Pieces.{adds_both, text-append}
 use Rattle.dt_text.proofs.IncludeLemmas.Reaching.{again_before, comes_to, ended_before, into_before, left_in, next_words}
@@ -102,7 +102,7 @@ module _ (Finds : List ℕ → List ℕ → Found → Type 0) where
         subst (PutsFrom Finds old) (before-three r.passed_is.put (plain r.before) first more)
         (from Finds old frame text passed r.passed_is (plain r.before ++ first ++ more) (inside name found (next old frame new (Source name) text passed r) there h))
 
-    beyond : (inner more : List Piece) → Includes Finds found.path.items found.bytes.items inner → PutsFrom Finds new more → PutsFrom Finds old (put ++ first ++ inner ++ more)
+    beyond : (inner more : List Piece) → Includes Finds true found.path.items found.bytes.items inner → PutsFrom Finds new more → PutsFrom Finds old (put ++ first ++ inner ++ more)
     beyond inner more i not_yet = subst (PutsFrom Finds old) (sym (append-nil (put ++ first ++ inner))) (within inner (whole i))
     beyond inner more i (behind_words before rest b h) =
         let at = reached_place old frame new (Source name) text passed r in
@@ -182,7 +182,7 @@ module _ (Finds : List ℕ → List ℕ → Found → Type 0) where
       by_turn old frame new inclusion turn text passed taken grown r is (subst (λ (b : List ℕ). IsTaken Finds b inclusion taken grown turn) same h)
 
   -- the file ends
-  pub end_turned : (old frame : Frame) (text passed grown : Whole) (left : List ℕ) → IsPassed old frame text passed → left ≡ left_in frame → HoldsNone left → Adds passed grown (plain left)
+  pub end_turned : (old frame : Frame) (text passed grown : Whole) (left : List ℕ) → IsPassed old frame text passed → left ≡ left_in frame → MayEnd frame.nested left → Adds passed grown (plain left)
       → IsTurned Finds old text frame grown End
   end_turned old frame text passed grown left p is h k =
       let same : left ≡ left_in old =
@@ -191,7 +191,7 @@ module _ (Finds : List ℕ → List ℕ → Found → Type 0) where
         put = p.put ++ plain left;
         adds = adds_both text passed grown p.put (plain left) p.grown_is k;
         turns = ended Finds old frame text passed left p is h;
-        puts = from Finds old frame text passed p (plain left) (subst (λ (u : List ℕ). Puts Finds old.path.items u (plain left)) same (whole (itself h)));
+        puts = from Finds old frame text passed p (plain left) (subst (λ (u : List ℕ). Puts Finds old.path.items u (plain left)) same (whole {nested = frame.nested} (itself h)));
         enough = enough_with Finds old frame text passed p (plain left);
         past = tt;
       }
@@ -283,17 +283,17 @@ module _ (Finds : List ℕ → List ℕ → Found → Type 0) where
         let own : s.0 ≡ inner = sym (append-nil s.0) ∙ ap (λ (u : List Piece). s.0 ++ u) (sym (done Finds s.1 s.3)) ∙ sym s.4 in
         let e : said ++ (all ++ s.0 ++ more) ≡ last ++ (inner ++ more) =
         ap (λ (u : List Piece). said ++ u) (append_assoc all s.0 more) ∙ sym (append_assoc said all (s.0 ++ more)) ∙ ap (λ (u : List Piece). u ++ (s.0 ++ more)) last_is ∙ ap (λ (u : List Piece). last ++ (u ++ more)) own in
-        subst (Puts Finds path source) e (innermost_put said frames old h (all ++ s.0 ++ more) (w.2 s.0 more (comes_to Finds g.inner found s.0 g.path_is g.bytes_is g.words_is g.line_is s.2) q)) in
+        subst (Puts Finds path source) e (innermost_put said frames old h (all ++ s.0 ++ more) (w.2 s.0 more (comes_to Finds g.inner found s.0 g.path_is g.nested_is g.bytes_is g.words_is g.line_is s.2) q)) in
         let inner_place : (more : List Piece) → PutsFrom Finds g.inner more → Puts Finds path source (last ++ more) = λ more q.
         let e : said ++ (all ++ more) ≡ last ++ more = sym (append_assoc said all more) ∙ ap (λ (u : List Piece). u ++ more) last_is in
         let start = just_put g.inner found.path.items found.bytes.items more g.words_is (ap (λ (v : Vec ℕ Global). v.items) g.path_is) (ap (λ (v : Vec ℕ Global). v.items) g.bytes_is) q in
         subst (Puts Finds path source) e (innermost_put said frames old h (all ++ more) (w.1 more start)) in
         subst (ArePut last) (sym (g.opened_is ∙ append_assoc frames (new ∷ []) (g.inner ∷ [])))
         (changed said last all frames (old ∷ []) (new ∷ g.inner ∷ []) (sym last_is)
-        (λ outer after k. into_before Finds outer old new g.inner found put after t (λ own. comes_to Finds g.inner found own g.path_is g.bytes_is g.words_is g.line_is) k) h (two last new g.inner outer_place inner_place))
+        (λ outer after k. into_before Finds outer old new g.inner found put after t (λ own. comes_to Finds g.inner found own g.path_is g.nested_is g.bytes_is g.words_is g.line_is) k) h (two last new g.inner outer_place inner_place))
 
     -- all that is put so far
-    pub put_now : (said : List Piece) (frames : List Frame) → ArePut said frames → (frames ≡ [] → Includes Finds path source said) → Puts Finds path source said
+    pub put_now : (said : List Piece) (frames : List Frame) → ArePut said frames → (frames ≡ [] → Includes Finds false path source said) → Puts Finds path source said
     unfolding ArePut
     put_now said [] h over = whole (over refl)
     put_now said (f ∷ []) h over = subst (Puts Finds path source) (append-nil said) (h.0 [] [] (no_files Finds) not_yet)

@@ -1,5 +1,5 @@
 -- The places that reading comes to, turn by turn, and why it stops at one.
-use Rattle.std.proofs.Common.{Global, ◌≡◌, ℕ, ◌+◌, List, [], ◌∷◌, ◌++◌, length, drop, Result, Ok, Err, IfErr, OnOk, sym, ap, subst, inl, inr, ◌∙◌, arith}
+use Rattle.std.proofs.Common.{Global, ◌≡◌, ℕ, ◌+◌, ◌<◌, Bool, true, false, List, [], ◌∷◌, ◌++◌, length, drop, Result, Ok, Err, IfErr, OnOk, sym, ap, subst, inl, inr, ◌∙◌, arith}
 use Rattle.std.specs.Prelude.{Vec, if◌then◌else◌}
 use Rattle.std.specs.Result.{is_ok}
 use Rattle.std.proofs.lemmas.List.{append-nil, append_assoc, length-append}
@@ -18,7 +18,7 @@ use Rattle.dt_text.specs.Include.Private.Places.{place_of}
 use Rattle.dt_text.specs.Include.Shortfall.{IsStopped, Puts, Reaches, Stops, StopsAt, begin, behind_binary, behind_source, into}
 use Rattle.dt_text.specs.Include.UserLines.{first_of}
 use Rattle.dt_text.specs.Include.Words.{HasNext, name_of}
-use Rattle.dt_text.proofs.IncludeLemmas.OpenFiles.{Reading, found_by, has_next, just_opened, left_of, no_files, opened, path_of, rest_of, split}
+use Rattle.dt_text.proofs.IncludeLemmas.OpenFiles.{Reading, found_by, has_next, just_opened, left_of, nested_of, no_files, opened, path_of, rest_of, split}
 use Rattle.dt_text.proofs.IncludeLemmas.Pieces.{text-append}
 
 pub err_weaker : {A E : Type 0} → (r : Result A E) (P Q : E → Type 0) → ((e : E) → P e → Q e) → IfErr r P → IfErr r Q
@@ -52,6 +52,7 @@ module _ (Finds : List ℕ → List ℕ → Found → Type 0) where
     next = next_words old frame new inclusion whole passed r;
     finds = found_by old frame new inclusion whole passed r Finds (name_of inclusion) found f;
     path_is = sym (path_of old frame new inclusion whole passed r);
+    nested_is = nested_of old frame new inclusion whole passed r;
   }
 
   by_turn : (old frame new : Frame) (inclusion : Inclusion) (turn : Turn) (whole passed taken grown : Whole) → Reading old frame new inclusion whole passed
@@ -100,7 +101,7 @@ module _ (Finds : List ℕ → List ℕ → Found → Type 0) where
       subst (Completes Finds (frames ++ old ∷ [])) (append_assoc put s.0 s.1 ∙ ap (λ (u : List Piece). put ++ u) (sym s.4)) (opened Finds frames old (put ++ s.0) s.1 (turns s.0 s.2) s.3)
 
   pub into_before : (frames : List Frame) (old new inner : Frame) (found : Found) (put after : List Piece) → TurnsTo Finds old new (Into found) put
-      → ((own : List Piece) → ComesTo Finds inner own → Includes Finds found.path.items found.bytes.items own) → Completes Finds (frames ++ new ∷ inner ∷ []) after
+      → ((own : List Piece) → ComesTo Finds inner own → Includes Finds true found.path.items found.bytes.items own) → Completes Finds (frames ++ new ∷ inner ∷ []) after
       → Completes Finds (frames ++ old ∷ []) (put ++ first_marker found ++ after)
   into_before frames old new inner found put after turns comes k =
       let s = split Finds (frames ++ new ∷ []) inner after (subst (λ (fs : List Frame). Completes Finds fs after) (sym (append_assoc frames (new ∷ []) (inner ∷ []))) k) in
@@ -111,20 +112,25 @@ module _ (Finds : List ℕ → List ℕ → Found → Type 0) where
       (opened Finds frames old (add ++ s.0 ++ r.0) r.1 (turns s.0 r.0 (comes s.0 s.2) r.2) r.3)
 
   -- what a file comes to that was just opened
-  pub comes_to : (inner : Frame) (found : Found) (own : List Piece) → inner.path ≡ found.path → inner.bytes ≡ found.bytes → inner.words.end ≡ 0
-      → place_of inner.line ≡ first_of found.path.items → ComesTo Finds inner own → Includes Finds found.path.items found.bytes.items own
-  comes_to inner found own path_is bytes_is words_is line_is h =
-      subst (λ (b : Vec ℕ Global). Includes Finds b.items found.bytes.items own) path_is
-      (subst (λ (b : Vec ℕ Global). Includes Finds inner.path.items b.items own) bytes_is (just_opened Finds inner own words_is (line_is ∙ ap (λ (p : Vec ℕ Global). first_of p.items) (sym path_is)) h))
+  pub comes_to : (inner : Frame) (found : Found) (own : List Piece) → inner.path ≡ found.path → inner.nested ≡ true → inner.bytes ≡ found.bytes → inner.words.end ≡ 0
+      → place_of inner.line ≡ first_of found.path.items → ComesTo Finds inner own → Includes Finds true found.path.items found.bytes.items own
+  comes_to inner found own path_is nested_is bytes_is words_is line_is h =
+      subst (λ (b : Vec ℕ Global). Includes Finds true b.items found.bytes.items own) path_is
+      (subst (λ (b : Vec ℕ Global). Includes Finds true inner.path.items b.items own) bytes_is
+      (subst (λ (b : Bool). Includes Finds b inner.path.items inner.bytes.items own) nested_is (just_opened Finds inner own words_is (line_is ∙ ap (λ (p : Vec ℕ Global). first_of p.items) (sym path_is)) h)))
 
   -- ---- the places of the open files
 
   module _ (path text : List ℕ) where
+    -- A file is at a place that is reached; one that is nested isn't the only one that is open.
+    abbrev IsAt : ℕ → Frame → Type 0
+    IsAt opened frame = Reaches Finds path text opened frame.path.items (left_in frame) × (frame.nested ≡ true → 1 < opened)
+
     -- Each open file is at a place that is reached once the files that are open in it are read, from the outermost on.
     unfoldable pub AreReached : ℕ → List Frame → Type 0
     AreReached opened [] = Unit {0}
     AreReached opened (frame ∷ frames) =
-        ((inner : List Piece) → Completes Finds frames inner → Reaches Finds path text opened frame.path.items (left_in frame)) × AreReached (opened + 1) frames
+        ((inner : List Piece) → Completes Finds frames inner → IsAt opened frame) × AreReached (opened + 1) frames
 
     -- the innermost files change
     changed : (n : ℕ) (frames old new : List Frame) (add : List Piece) → ((outer : List Frame) (after : List Piece) → Completes Finds (outer ++ new) after → Completes Finds (outer ++ old) (add ++ after))
@@ -148,17 +154,17 @@ module _ (Finds : List ℕ → List ℕ → Found → Type 0) where
     unfolding AreReached
     none opened = tt
 
-    one : (opened : ℕ) (frame : Frame) → Reaches Finds path text opened frame.path.items (left_in frame) → AreReached opened (frame ∷ [])
+    one : (opened : ℕ) (frame : Frame) → IsAt opened frame → AreReached opened (frame ∷ [])
     unfolding AreReached
     one opened frame h = (λ inner k. h, tt)
 
-    two : (opened : ℕ) (outer inner : Frame) → ((said : List Piece) → Completes Finds (inner ∷ []) said → Reaches Finds path text opened outer.path.items (left_in outer))
-        → Reaches Finds path text (opened + 1) inner.path.items (left_in inner) → AreReached opened (outer ∷ inner ∷ [])
+    two : (opened : ℕ) (outer inner : Frame) → ((said : List Piece) → Completes Finds (inner ∷ []) said → IsAt opened outer)
+        → IsAt (opened + 1) inner → AreReached opened (outer ∷ inner ∷ [])
     unfolding AreReached
     two opened outer inner h k = (h, one (opened + 1) inner k)
 
     -- the place in the innermost file
-    innermost : (frames : List Frame) (frame : Frame) → AreReached 1 (frames ++ frame ∷ []) → Reaches Finds path text (1 + length frames) frame.path.items (left_in frame)
+    innermost : (frames : List Frame) (frame : Frame) → AreReached 1 (frames ++ frame ∷ []) → IsAt (1 + length frames) frame
     unfolding AreReached
     innermost frames frame h = (within 1 frames (frame ∷ []) h).0 [] (no_files Finds)
 
@@ -168,12 +174,12 @@ module _ (Finds : List ℕ → List ℕ → Found → Type 0) where
         let left : bytes ≡ left_in frame = sym same_bytes ∙ ap (λ (n : ℕ). drop n frame.bytes.items) (sym first) in
         subst (λ (p : List ℕ). Reaches Finds path text opened p (left_in frame)) (sym same_path) (subst (Reaches Finds path text opened beside) left h)
 
-    pub begun_reached : (frames : List Frame) (frame : Frame) → frames ≡ frame ∷ [] → frame.words.end ≡ 0 → frame.path.items ≡ path → frame.bytes.items ≡ text → AreReached 1 frames
-    begun_reached frames frame is first same_path same_text =
-        subst (AreReached 1) (sym is) (one 1 frame (just_begun 1 frame path text first same_path same_text begin))
+    pub begun_reached : (frames : List Frame) (frame : Frame) → frames ≡ frame ∷ [] → frame.words.end ≡ 0 → frame.path.items ≡ path → frame.nested ≡ false → frame.bytes.items ≡ text → AreReached 1 frames
+    begun_reached frames frame is first same_path own same_text =
+        subst (AreReached 1) (sym is) (one 1 frame (just_begun 1 frame path text first same_path same_text begin, λ e. absurd (cc (own, e))))
 
-    same_file : (opened : ℕ) (old new : Frame) → new.path ≡ old.path → Reaches Finds path text opened old.path.items (left_in new) → Reaches Finds path text opened new.path.items (left_in new)
-    same_file opened old new is h = subst (λ (p : Vec ℕ Global). Reaches Finds path text opened p.items (left_in new)) (sym is) h
+    same_file : (opened : ℕ) (old new : Frame) → new.path ≡ old.path → new.nested ≡ old.nested → IsAt opened old → Reaches Finds path text opened old.path.items (left_in new) → IsAt opened new
+    same_file opened old new is nested place h = (subst (λ (p : Vec ℕ Global). Reaches Finds path text opened p.items (left_in new)) (sym is) h, λ e. place.1 (sym nested ∙ e))
 
     gone_on : (frames now : List Frame) (old new : Frame) (turn : Turn) (put : List Piece) → AreReached 1 (frames ++ old ∷ []) → TurnsTo Finds old new turn put
         → Moves Finds old new turn → Goes frames new turn now → Nests (1 + length frames) turn → AreReached 1 now
@@ -181,19 +187,20 @@ module _ (Finds : List ℕ → List ℕ → Found → Type 0) where
         subst (AreReached 1) (append-nil frames ∙ sym g)
         (changed 1 frames (old ∷ []) [] put (λ outer after k. ended_before outer old put after t k) h (none (1 + length frames)))
     gone_on frames now old new Again put h t m g n =
-        let place = same_file (1 + length frames) old new m.2.path_is (behind_binary m.0 m.1 (innermost frames old h) m.2.next m.2.finds) in
+        let here = innermost frames old h in
+        let place = same_file (1 + length frames) old new m.2.path_is m.2.nested_is here (behind_binary m.0 m.1 here.0 m.2.next m.2.finds) in
         subst (AreReached 1) (sym g)
         (changed 1 frames (old ∷ []) (new ∷ []) put (λ outer after k. again_before outer old new put after t k) h (one (1 + length frames) new place))
     gone_on frames now old new (Into found) put h t m g n =
         let here = innermost frames old h in
-        let comes : (own : List Piece) → ComesTo Finds g.inner own → Includes Finds found.path.items found.bytes.items own = λ own. comes_to g.inner found own g.path_is g.bytes_is g.words_is g.line_is in
-        let outer_place : (said : List Piece) → Completes Finds (g.inner ∷ []) said → Reaches Finds path text (1 + length frames) new.path.items (left_in new) = λ said k.
+        let comes : (own : List Piece) → ComesTo Finds g.inner own → Includes Finds true found.path.items found.bytes.items own = λ own. comes_to g.inner found own g.path_is g.nested_is g.bytes_is g.words_is g.line_is in
+        let outer_place : (said : List Piece) → Completes Finds (g.inner ∷ []) said → IsAt (1 + length frames) new = λ said k.
         let s = split Finds [] g.inner said k in
-        same_file (1 + length frames) old new m.1.path_is (behind_source m.0 found here m.1.next m.1.finds n (comes s.0 s.2)) in
+        same_file (1 + length frames) old new m.1.path_is m.1.nested_is here (behind_source m.0 found here.0 m.1.next m.1.finds n (comes s.0 s.2)) in
         let first = just_begun (1 + length frames + 1) g.inner found.path.items found.bytes.items g.words_is
-        (ap (λ (p : Vec ℕ Global). p.items) g.path_is) (ap (λ (b : Vec ℕ Global). b.items) g.bytes_is) (into m.0 found here m.1.next m.1.finds n) in
+        (ap (λ (p : Vec ℕ Global). p.items) g.path_is) (ap (λ (b : Vec ℕ Global). b.items) g.bytes_is) (into m.0 found here.0 m.1.next m.1.finds n) in
         subst (AreReached 1) (sym (g.opened_is ∙ append_assoc frames (new ∷ []) (g.inner ∷ [])))
-        (changed 1 frames (old ∷ []) (new ∷ g.inner ∷ []) (put ++ first_marker found) (λ outer after k. into_before outer old new g.inner found put after t comes k) h (two (1 + length frames) new g.inner outer_place first))
+        (changed 1 frames (old ∷ []) (new ∷ g.inner ∷ []) (put ++ first_marker found) (λ outer after k. into_before outer old new g.inner found put after t comes k) h (two (1 + length frames) new g.inner outer_place (first, λ e. omega arith)))
 
     pub gone_reached : (frames now : List Frame) (old new : Frame) (turn : Turn) (put : List Piece) → AreReached 1 (frames ++ old ∷ []) → TurnsTo Finds old new turn put
         → Moves Finds old new turn → Goes frames new turn now → Nests (length frames + 1) turn → AreReached 1 now
@@ -213,14 +220,14 @@ module _ (Finds : List ℕ → List ℕ → Found → Type 0) where
       stopped opened beside left reason h wrong = record { opened = opened; beside = beside; left = left; reached = h; wrong = wrong }
 
       -- a turn isn't done
-      turn_stops : (old : Frame) (said : List Piece) (text_now : List ℕ) (opened : ℕ) (reason : Incomplete) → text_now ≡ text_of said → Reaches Finds path text opened old.path.items (left_in old)
+      turn_stops : (old : Frame) (said : List Piece) (text_now : List ℕ) (opened : ℕ) (reason : Incomplete) → text_now ≡ text_of said → IsAt opened old
           → ((more : List Piece) → PutsFrom Finds old more → Puts Finds path text (said ++ more)) → StopsIn Finds Lacks old text_now reason → Stops Finds Lacks path text reason
       turn_stops old said now opened NoMemory is h puts wrong = tt
-      turn_stops old said now opened (NoFile name) is h puts wrong = stopped opened old.path.items (left_in old) (NoFile name) h (wrong opened)
+      turn_stops old said now opened (NoFile name) is h puts wrong = stopped opened old.path.items (left_in old) (NoFile name) h.0 (wrong opened)
       turn_stops old said now opened TooDeep is h puts wrong = absurd wrong
       turn_stops old said now opened TooLong is h puts wrong =
           (said ++ wrong.0, puts wrong.0 wrong.1, omega (arith, wrong.2, ap length is, ap length (text-append said wrong.0), length-append now (text_of wrong.0), length-append (text_of said) (text_of wrong.0)))
-      turn_stops old said now opened Syntax is h puts wrong = stopped opened old.path.items (left_in old) Syntax h (wrong opened)
+      turn_stops old said now opened Syntax is h puts wrong = stopped opened old.path.items (left_in old) Syntax h.0 (wrong opened h.1)
 
       pub stops_there : (frames : List Frame) (old : Frame) (said : List Piece) (text_now : List ℕ) (reason told : Incomplete) → text_now ≡ text_of said → AreReached 1 (frames ++ old ∷ [])
           → ((more : List Piece) → PutsFrom Finds old more → Puts Finds path text (said ++ more)) → StopsIn Finds Lacks old text_now reason → IsKept reason told → Stops Finds Lacks path text told
@@ -244,4 +251,4 @@ module _ (Finds : List ℕ → List ℕ → Found → Type 0) where
       stuck_there frames old new turn reason told h m wrong keeps =
           let e : 1 + length frames ≡ length frames + 1 = omega arith in
           kept reason told keeps
-          (stuck old new turn (length frames + 1) reason (subst (λ (k : ℕ). Reaches Finds path text k old.path.items (left_in old)) e (innermost frames old h)) m wrong)
+          (stuck old new turn (length frames + 1) reason (subst (λ (k : ℕ). Reaches Finds path text k old.path.items (left_in old)) e (innermost frames old h).0) m wrong)

@@ -7,7 +7,7 @@ use Rattle.dt_text.proofs.LexemeLemmas.Tails.{EndsIn, ends_at, ends_drop, ends_o
 use Rattle.dt_text.specs.declared.lexeme.language.Language.TheVariants.{Dtc}
 use Rattle.dt_text.specs.declared.include.words.Inclusion.{Inclusion}
 use Rattle.dt_text.specs.declared.include.words.Inclusion.TheVariants.{Binary, Source}
-use Rattle.dt_text.specs.Include.Words.{Bracketed, NamesFile, Passes, Quoted, Sign, byte, character, nameless, nothing, remark, string}
+use Rattle.dt_text.specs.Include.Words.{Bracketed, NamesFile, Passes, Quoted, Sign, byte, character, nameless, nothing, remark, slash, string}
 
 sign_ends : (c : ℕ) (s t : List ℕ) → Sign c s t → EndsIn s t
 sign_ends c s t h = ends_on s h.start t (gap_ends Dtc s h.start h.gap) (subst (EndsIn h.start) (sym h.rest_is) (ends_drop 1 h.start))
@@ -30,6 +30,7 @@ passes_ends s t (string n b f h) = ends_on s (drop n s) t (ends_drop n s) (passe
 passes_ends s t (character n b f h) = ends_on s (drop (n + 1) s) t (ends_drop (n + 1) s) (passes_ends (drop (n + 1) s) t h)
 passes_ends s t (remark behind b g h) = ends_on s behind t (gap_ends Dtc s behind g) (passes_ends behind t h)
 passes_ends s t (nameless b h) = ends_on s (drop 8 s) t (ends_drop 8 s) (passes_ends (drop 8 s) t h)
+passes_ends s t (slash kind n b r l h) = ends_on s (drop (n + 1) s) t (ends_drop (n + 1) s) (passes_ends (drop (n + 1) s) t h)
 passes_ends s t (byte b h) = ends_on s (drop 1 s) t (ends_drop 1 s) (passes_ends (drop 1 s) t h)
 
 -- ---- by lengths

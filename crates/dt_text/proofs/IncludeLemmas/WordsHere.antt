@@ -1,5 +1,5 @@
 -- The words that name a file, one by one, and what stands at the front of a text.
-use Rattle.std.proofs.Common.{◌≡◌, ℕ, zero, suc, ◌+◌, ◌<◌, ◌≤◌, Bool, true, false, eqb, nat_eq, List, [], ◌∷◌, length, take, drop, Option, Some, None, refl, sym, ap, subst, ◌∙◌, arith}
+use Rattle.std.proofs.Common.{◌≡◌, ℕ, zero, suc, ◌+◌, ◌<◌, ◌≤◌, Bool, true, false, eqb, nat_eq, List, [], ◌∷◌, length, take, drop, Option, Some, None, refl, sym, ap, subst, inl, inr, ◌∙◌, arith}
 use Rattle.std.specs.Prelude.{◌≢◌, ◌&&◌, ◌||◌, codes}
 use Rattle.std.specs.Cmp.Lexicographic.{as_long, pointwise}
 use Rattle.std.proofs.lemmas.Bool.{eqb-true}
@@ -13,8 +13,12 @@ use Rattle.dt_text.proofs.LexemeLemmas.GapEnds.{comment_shorter, gap_shorter, li
 use Rattle.dt_text.specs.Include.Bytes.{passes, run_of}
 use Rattle.dt_text.specs.declared.include.bytes.Class.TheVariants.{Plain}
 use Rattle.dt_text.specs.declared.include.words.Inclusion.{Inclusion}
-use Rattle.dt_text.specs.Include.Private.Included.{BinaryAt, QuotedAt}
-use Rattle.dt_text.specs.Include.Words.{Bracketed, NamesFile, Passes, Quoted, Sign, begins_incbin, begins_include, begins_keyword, begins_line_comment, begins_quote, begins_remark, byte, character, is_quote, nameless, remark, string}
+use Rattle.dt_text.specs.declared.include.words.Next.{Next}
+use Rattle.dt_text.specs.declared.include.words.Next.TheVariants as nexts
+use Rattle.dt_text.specs.declared.lexeme.lexeme.Kind.{Kind}
+use Rattle.dt_text.specs.Lexeme.Families.{IsLongest, slashed}
+use Rattle.dt_text.specs.Include.Private.Included.{BinaryAt, IsNext, IsOpenEnd, QuotedAt}
+use Rattle.dt_text.specs.Include.Words.{Bracketed, IsOpen, MayEnd, NamesFile, Passes, Quoted, Sign, begins_incbin, begins_include, begins_line_comment, begins_quote, begins_remark, byte, character, is_quote, nameless, remark, slash, string}
 use Rattle.dt_text.specs.Include.Words as words
 use Rattle.dt_text.proofs.IncludeLemmas.Runs.{run_no, run_yes}
 
@@ -50,8 +54,8 @@ bracketed_at s a rest (Some name) open_sign quoted = record { inside = a; open_s
 abbrev pub IsPassed : List ℕ → List ℕ → Type 0
 IsPassed s rest = (length rest < length s) × ((t : List ℕ) → Passes rest t → Passes s t)
 
-none_of : (a b c d : Bool) → a ≡ false → b ≡ false → c ≡ false → d ≡ false → (a || (b || (c || d))) ≡ false
-none_of a b c d e f g h = rw (e, f, g, h) refl
+none_of : (a b : Bool) → a ≡ false → b ≡ false → (a || b) ≡ false
+none_of a b e f = rw (e, f) refl
 
 no_front : closes 34 true [] ≡ false
 unfolding closes
@@ -117,14 +121,11 @@ slash_some : (s : List ℕ) → begins 47 s ≡ true → 1 ≤ length s
 slash_some [] e = absurd (cc e)
 slash_some (c ∷ s) e = omega arith
 
-slash_quote : (s : List ℕ) → begins 47 s ≡ true → begins_quote s ≡ false
-slash_quote [] e = absurd cc
-slash_quote (c ∷ s) e = let k : c ≡ 47 = eqb-true c 47 e in rw k refl
-
-pub slash_passed : (s rest : List ℕ) → begins 47 s ≡ true → begins_remark s ≡ false → begins_include s ≡ false → begins_incbin s ≡ false → rest ≡ drop 1 s → IsPassed s rest
-slash_passed s rest b r i j is = (
-  omega (arith, slash_some s b, ap length is, length-drop 1 s),
-  λ t h. byte (none_of (begins_quote s) (begins_remark s) (begins_include s) (begins_incbin s) (slash_quote s b) r i j) (subst (λ (u : List ℕ). Passes u t) is h),
+pub slash_passed : (s rest : List ℕ) (kind : Kind) (n : ℕ) → begins 47 s ≡ true → begins_remark s ≡ false → begins_include s ≡ false → begins_incbin s ≡ false
+    → IsLongest (slashed Dtc) (drop 1 s) kind n → rest ≡ drop (n + 1) s → IsPassed s rest
+slash_passed s rest kind n b r i j k is = (
+  omega (arith, slash_some s b, ap length is, length-drop (n + 1) s),
+  λ t h. slash kind n b (rw (r, i, j) refl) k (subst (λ (u : List ℕ). Passes u t) is h),
 )
 
 pub nameless_passed : (s inside rest : List ℕ) → begins_incbin s ≡ true → inside ≡ drop 8 s → ((name t : List ℕ) → Bracketed inside name t → ⊥) → rest ≡ drop 8 s → IsPassed s rest
@@ -136,19 +137,8 @@ nameless_passed s inside rest e inside_is missing is = (
 other_quote : (c : ℕ) → eqb c 34 ≡ false → eqb c 39 ≡ false → is_quote c ≡ false
 other_quote c e f = rw (e, f) refl
 
-other_remark : (c : ℕ) (s : List ℕ) → eqb c 47 ≡ false → begins_remark (c ∷ s) ≡ false
-other_remark c [] e = refl
-other_remark c (d ∷ s) e = rw e refl
-
-other_include : (c : ℕ) (s : List ℕ) → eqb c 47 ≡ false → begins_include (c ∷ s) ≡ false
-other_include c s e = ap (λ (b : Bool). b && pointwise nat_eq (take 8 s) (codes "include/")) e
-
-other_incbin : (c : ℕ) (s : List ℕ) → eqb c 47 ≡ false → begins_incbin (c ∷ s) ≡ false
-other_incbin c s e = ap (λ (b : Bool). b && pointwise nat_eq (take 7 s) (codes "incbin/")) e
-
 other_byte : (c : ℕ) (s t : List ℕ) → eqb c 34 ≡ false → eqb c 39 ≡ false → eqb c 47 ≡ false → Passes s t → Passes (c ∷ s) t
-other_byte c s t e f g h =
-    byte (none_of (begins_quote (c ∷ s)) (begins_remark (c ∷ s)) (begins_include (c ∷ s)) (begins_incbin (c ∷ s)) (other_quote c e f) (other_remark c s g) (other_include c s g) (other_incbin c s g)) h
+other_byte c s t e f g h = byte (none_of (begins_quote (c ∷ s)) (begins 47 (c ∷ s)) (other_quote c e f) g) h
 
 run_passes : (s t : List ℕ) → Passes (drop (run_of Plain s) s) t → Passes s t
 run_passes [] t h = h
@@ -180,6 +170,17 @@ run_passed s rest n some e f g run is =
 
 pub words_next : (s left from rest : List ℕ) (i : Inclusion) → ((t : List ℕ) → Passes left t → Passes s t) → from ≡ left → NamesFile left i rest → Passes s from × NamesFile from i rest
 words_next s left from rest i inv e h = (subst (Passes s) (sym e) (inv left words.nothing), subst (λ (u : List ℕ). NamesFile u i rest) (sym e) h)
+
+-- the text ends
+pub end_next : (nested : Bool) (s left : List ℕ) → Passes s left → left ≡ [] → MayEnd nested s
+end_next true s left h e = subst (Passes s) e h
+end_next false s left h e = (left, h, inl e)
+
+-- the text ends in what is open
+pub open_next : (nested : Bool) (s left : List ℕ) (next : Next) → Passes s left → IsOpen left → IsOpenEnd nested next → IsNext nested s next
+open_next nested s left (nexts.Words inclusion stand) h o e = absurd e
+open_next nested s left (nexts.Broken stand) h o e = (left, h, inr (e, o))
+open_next nested s left nexts.Nothing h o e = subst (λ (b : Bool). MayEnd b s) (sym e) (left, h, inr o)
 
 pub empty_is : (s : List ℕ) → true ≡ eqb (length s) 0 → s ≡ []
 empty_is [] e = refl

@@ -1,12 +1,12 @@
 -- What a source takes in, and the files that it names (dtc 1.6, Documentation/manual.txt, section 4.1).
-use Rattle.std.specs.Prelude.{◌≡◌, ℕ, ◌+◌, ◌≤◌, List, [], ◌∷◌, ◌++◌, length, map}
+use Rattle.std.specs.Prelude.{◌≡◌, ℕ, ◌+◌, ◌≤◌, List, [], ◌∷◌, ◌++◌, length, map, Bool, true, false}
 use denote.Ref.{Bor}
 use Rattle.dt_text.specs.declared.lexeme.binary.Binary.{Binary}
 use Rattle.dt_text.specs.declared.include.inclusion.Found.{Found}
 use Rattle.dt_text.specs.declared.include.inclusion.Whole.{Whole}
 use Rattle.dt_text.specs.declared.include.words.Inclusion.TheVariants as inclusions
 use Rattle.dt_text.specs.Include.UserLines.{UserPlace, first_of, marker_of, place_behind}
-use Rattle.dt_text.specs.Include.Words.{HasNext, HoldsNone, name_of}
+use Rattle.dt_text.specs.Include.Words.{HasNext, MayEnd, name_of}
 
 -- whether a file may be taken in where so many are open, the user's own among them: then 200 at most are nested in that one
 abbrev pub MayNest : ℕ → Type 0
@@ -48,25 +48,26 @@ files_from at (Named bytes ∷ pieces) = record { at = at; bytes = bytes } ∷ f
 abbrev pub behind_words : UserPlace → List ℕ → List ℕ → UserPlace
 behind_words place before words = place_behind (place_behind place before) words
 
--- What a text comes to that stands at a place of a file of this path, the user's line and file. A source stands between line
+-- What a text comes to that stands at a place of a file of this path, the user's line and file. The flag says that the file is nested:
+-- that another takes it in. A source stands between line
 -- markers, of its first line and of the place behind the words, in place of these; a binary file is named, and its words stay.
 -- `Finds` says which files have a name beside a path.
-pub data IncludesFrom (Finds : List ℕ → List ℕ → Found → Type 0) : List ℕ → UserPlace → List ℕ → List Piece → Type 0 where
-  itself : {path text : List ℕ} {place : UserPlace} → HoldsNone text → IncludesFrom Finds path place text (plain text)
-  source : {path text before : List ℕ} {inner more : List Piece} {place : UserPlace} (name : Bor (List ℕ)) (words rest : List ℕ) (found : Found)
+pub data IncludesFrom (Finds : List ℕ → List ℕ → Found → Type 0) : Bool → List ℕ → UserPlace → List ℕ → List Piece → Type 0 where
+  itself : {nested : Bool} {path text : List ℕ} {place : UserPlace} → MayEnd nested text → IncludesFrom Finds nested path place text (plain text)
+  source : {nested : Bool} {path text before : List ℕ} {inner more : List Piece} {place : UserPlace} (name : Bor (List ℕ)) (words rest : List ℕ) (found : Found)
       → HasNext text (inclusions.Source name) before rest → before ++ words ++ rest ≡ text → Finds path name.now found
-      → IncludesFrom Finds found.path.items (first_of found.path.items) found.bytes.items inner
-      → IncludesFrom Finds path (behind_words place before words) rest more
-      → IncludesFrom Finds path place text
+      → IncludesFrom Finds true found.path.items (first_of found.path.items) found.bytes.items inner
+      → IncludesFrom Finds nested path (behind_words place before words) rest more
+      → IncludesFrom Finds nested path place text
       (plain before ++ plain (marker_of (first_of found.path.items)) ++ inner ++ plain (marker_of (behind_words place before words)) ++ more)
-  binary : {path text before : List ℕ} {more : List Piece} {place : UserPlace} (name : Bor (List ℕ)) (words rest : List ℕ) (found : Found)
+  binary : {nested : Bool} {path text before : List ℕ} {more : List Piece} {place : UserPlace} (name : Bor (List ℕ)) (words rest : List ℕ) (found : Found)
       → HasNext text (inclusions.Binary name) before rest → before ++ words ++ rest ≡ text → Finds path (name_of (inclusions.Binary name)) found
-      → IncludesFrom Finds path (behind_words place before words) rest more
-      → IncludesFrom Finds path place text (plain before ++ named found.bytes.items ++ plain words ++ more)
+      → IncludesFrom Finds nested path (behind_words place before words) rest more
+      → IncludesFrom Finds nested path place text (plain before ++ named found.bytes.items ++ plain words ++ more)
 
--- What the text of a file of this path comes to, from its first line on.
-abbrev pub Includes : (List ℕ → List ℕ → Found → Type 0) → List ℕ → List ℕ → List Piece → Type 0
-Includes Finds path text = IncludesFrom Finds path (first_of path) text
+-- What the text of a file of this path comes to, from its first line on, nested or not.
+abbrev pub Includes : (List ℕ → List ℕ → Found → Type 0) → Bool → List ℕ → List ℕ → List Piece → Type 0
+Includes Finds nested path text = IncludesFrom Finds nested path (first_of path) text
 
 abbrev pub stored_of : Binary → Stored
 stored_of kept = record { at = kept.at; bytes = kept.bytes.items }
@@ -79,5 +80,5 @@ pub record IsWhole (whole : Whole) (pieces : List Piece) : Type 0 where
 -- This is what a text of a path comes to.
 pub record IsIncluded (Finds : List ℕ → List ℕ → Found → Type 0) (path text : List ℕ) (whole : Whole) : Type 0 where
   pub pieces : List Piece
-  pub includes : Includes Finds path text pieces
+  pub includes : Includes Finds false path text pieces
   pub is : IsWhole whole pieces

@@ -2,9 +2,11 @@
 use Rattle.std.specs.Prelude.{◌≡◌, ◌⊎◌, ℕ, ◌+◌, ◌-◌, ◌==◌, nat_eq, Bool, true, false, ◌&&◌, ◌||◌, List, [], ◌∷◌, ◌++◌, Some, None, take, drop, codes}
 use Rattle.std.specs.Cmp.Lexicographic.{pointwise}
 use Rattle.dt_text.specs.Lexeme.Bytes.{begins}
+use Rattle.dt_text.specs.Lexeme.Families.{IsLongest, slashed}
 use Rattle.dt_text.specs.Lexeme.Fronts.{Front, closes, closes_character}
 use Rattle.dt_text.specs.Lexeme.Gaps.{IsGap, begins_comment}
 use Rattle.dt_text.specs.declared.lexeme.language.Language.TheVariants.{Dtc}
+use Rattle.dt_text.specs.declared.lexeme.lexeme.Kind.{Kind}
 use Rattle.dt_text.specs.Expression.Escape.{unescaped}
 use Rattle.dt_text.specs.declared.include.words.Inclusion.{Inclusion}
 use Rattle.dt_text.specs.declared.include.words.Inclusion.TheVariants.{Binary, Source}
@@ -79,15 +81,17 @@ begins_remark s = begins_comment s || begins_line_comment s
 abbrev pub begins_keyword : List ℕ → Bool
 begins_keyword s = begins_include s || begins_incbin s
 
--- Strings, character literals, comments with the gap behind them, `/incbin/`s without a name, and bytes that begin none of these nor
--- other words lie between the front of the first text and the second text.
+-- Strings, character literals, comments with the gap behind them, `/incbin/`s without a name, slashes with the other keywords that
+-- they begin, and bytes that begin none of these lie between the front of the first text and the second text.
 pub data Passes : List ℕ → List ℕ → Type 0 where
   nothing : {s : List ℕ} → Passes s s
   string : {s t : List ℕ} (n : ℕ) → begins 34 s ≡ true → Front (closes 34 true) s (Some n) → Passes (drop n s) t → Passes s t
   character : {s t : List ℕ} (n : ℕ) → begins 39 s ≡ true → Front (closes_character false) (drop 1 s) (Some n) → Passes (drop (n + 1) s) t → Passes s t
   remark : {s t : List ℕ} (behind : List ℕ) → begins_remark s ≡ true → IsGap Dtc s behind → Passes behind t → Passes s t
   nameless : {s t : List ℕ} → IsNameless s → Passes (drop 8 s) t → Passes s t
-  byte : {s t : List ℕ} → (begins_quote s || (begins_remark s || begins_keyword s)) ≡ false → Passes (drop 1 s) t → Passes s t
+  slash : {s t : List ℕ} (kind : Kind) (n : ℕ) → begins 47 s ≡ true → (begins_remark s || begins_keyword s) ≡ false → IsLongest (slashed Dtc) (drop 1 s) kind n
+      → Passes (drop (n + 1) s) t → Passes s t
+  byte : {s t : List ℕ} → (begins_quote s || begins 47 s) ≡ false → Passes (drop 1 s) t → Passes s t
 
 -- A string, a character literal or a comment is open up to the text's end.
 pub data IsOpen (s : List ℕ) : Type 0 where
@@ -98,6 +102,12 @@ pub data IsOpen (s : List ℕ) : Type 0 where
 -- No words that name a file stand in the text.
 abbrev pub HoldsNone : List ℕ → Type 0
 HoldsNone s = (t : List ℕ) × Passes s t × (t ≡ [] ⊎ IsOpen t)
+
+-- A file may end so. One that another takes in leaves nothing open, as a lexeme ends with its file (dtc 1.6, dtc-lexer.l); the user's
+-- own may: its text has no lexemes then.
+abbrev pub MayEnd : (nested : Bool) → List ℕ → Type 0
+MayEnd true s = Passes s []
+MayEnd false s = HoldsNone s
 
 -- The text has these words, what stands before the first of them, and what stands behind.
 pub record HasNext (text : List ℕ) (inclusion : Inclusion) (before rest : List ℕ) : Type 0 where

@@ -58,7 +58,7 @@ pub enum Incomplete {
     TooDeep,
     /// More than 16,777,216 bytes.
     TooLong,
-    /// No file's name stands behind `/include/`.
+    /// No file's name stands behind `/include/`, or a file that is taken in leaves a string, a character literal or a comment open.
     Syntax,
 }
 
@@ -91,11 +91,12 @@ pub struct Whole {
     pub binaries: Vec<Binary>,
 }
 
-/// A file that is open: its bytes, those of the last words of it that were read, whether these stay in the text, and the line of the
-/// user's file in which they begin.
+/// A file that is open: whether another took it in, its bytes, those of the last words of it that were read, whether these stay in
+/// the text, and the line of the user's file in which they begin.
 #[derive(Drop)]
 struct Frame {
     path: Vec<u8>,
+    nested: bool,
     bytes: Vec<u8>,
     words: Span,
     stays: bool,
@@ -127,6 +128,7 @@ pub fn included<F: Files>(
     let mut frames = Vec::new(alloc);
     frames.push(Frame {
         path: Vec::from_slice(alloc, path)?,
+        nested: false,
         bytes: Vec::from_slice(alloc, text)?,
         words: NO_WORDS,
         stays: false,
@@ -176,6 +178,7 @@ fn go_on(
                 frames,
                 Frame {
                     path,
+                    nested: true,
                     bytes,
                     words: NO_WORDS,
                     stays: false,
@@ -261,7 +264,7 @@ fn take_turn<F: Files>(
 {
     pass_words(alloc, frame, whole)?;
     let left = behind(frame.bytes.as_slice(), frame.words.end);
-    match next_inclusion(left) {
+    match next_inclusion(left, frame.nested) {
         Next::Words(inclusion, stand) => {
             let before = front(left, left.len().saturating_sub(stand.from.len()));
             whole.text.extend_from_slice(before)?;

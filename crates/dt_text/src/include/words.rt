@@ -2,11 +2,12 @@
 ghost use Rattle.std.specs.Prelude.{◌≡◌, ◌≢◌, ◌-◌, [], false, length, true};
 ghost use Rattle.dt_text.specs.Lexeme.Bytes.{begins};
 ghost use Rattle.dt_text.specs.Include.Words.{begins_include, begins_incbin, begins_line_comment, begins_remark};
-ghost use Rattle.dt_text.specs.Include.Private.Included.{BinaryAt, IsNext, IsPiece, IsStringLen, IsTold, IsWordLen, QuotedAt, SignAt, SkipsTo};
+ghost use Rattle.dt_text.specs.Include.Private.Included.{BinaryAt, IsNext, IsOpenEnd, IsPiece, IsStringLen, IsTold, IsWordLen, QuotedAt, SignAt, SkipsTo};
 
 use crate::include::bytes::{Class, begins, behind, front, run_len};
 use crate::include::place::Span;
 use crate::lexeme::Language;
+use crate::lexeme::families::solidus;
 use crate::lexeme::fronts::{character_len, quoted_len};
 use crate::lexeme::gaps::{begins_comment, skip_gap};
 
@@ -48,14 +49,14 @@ pub(crate) fn span_of(text: &[u8], stand: Stand<'_>) -> Span
 pub(crate) enum Next<'t> {
     /// Words, and where they stand.
     Words(Inclusion<'t>, Stand<'t>),
-    /// `/include/` without a name: what stands where that should, or the keyword at the text's end.
+    /// `/include/` without a name: what stands where that should, or the keyword at the text's end. Or what a nested file leaves open.
     Broken(Stand<'t>),
     Nothing,
 }
 
-/// The next words that name a file. In strings and comments there are none.
-pub(crate) fn next_inclusion<'t>(s: &'t [u8]) -> Next<'t>
-    ensures { IsNext s.now result }
+/// The next words that name a file. In strings and comments there are none; where a file is nested in another, none is open at its end.
+pub(crate) fn next_inclusion<'t>(s: &'t [u8], nested: bool) -> Next<'t>
+    ensures { IsNext nested s.now result }
 {
     let mut left = s;
     'pieces: loop {
@@ -66,8 +67,19 @@ pub(crate) fn next_inclusion<'t>(s: &'t [u8]) -> Next<'t>
             Piece::Words(inclusion, stand) => return Next::Words(inclusion, stand),
             Piece::Broken(stand) => return Next::Broken(stand),
             Piece::Passed(rest) => left = rest,
-            Piece::Open => return Next::Nothing,
+            Piece::Open(stand) => return open_end(nested, stand),
         }
+    }
+}
+
+/// What is next where a string or a comment is open to the end of the text.
+fn open_end<'t>(nested: bool, stand: Stand<'t>) -> Next<'t>
+    ensures { IsOpenEnd nested result }
+{
+    if nested {
+        Next::Broken(stand)
+    } else {
+        Next::Nothing
     }
 }
 
@@ -78,8 +90,8 @@ enum Piece<'t> {
     Broken(Stand<'t>),
     /// Bytes that name no file, and what stands behind them.
     Passed(&'t [u8]),
-    /// A string or a comment that doesn't end.
-    Open,
+    /// A string or a comment that doesn't end, and where it begins.
+    Open(Stand<'t>),
 }
 
 fn piece_at<'t>(s: &'t [u8]) -> Piece<'t>
@@ -104,7 +116,15 @@ fn string_at<'t>(s: &'t [u8]) -> Piece<'t>
 {
     match quoted_len(b'"', true, s) {
         Some(len) => Piece::Passed(behind(s, len)),
-        None => Piece::Open,
+        None => Piece::Open(opening(s, 1)),
+    }
+}
+
+/// The bytes that open what a text begins with.
+fn opening<'t>(s: &'t [u8], len: usize) -> Stand<'t> {
+    Stand {
+        from: s,
+        rest: behind(s, len),
     }
 }
 
@@ -115,7 +135,7 @@ fn character_at<'t>(s: &'t [u8]) -> Piece<'t>
 {
     match character_len(behind(s, 1)) {
         Some(len) => Piece::Passed(behind(s, len + 1)),
-        None => Piece::Open,
+        None => Piece::Open(opening(s, 1)),
     }
 }
 
@@ -129,7 +149,7 @@ fn slash_at<'t>(s: &'t [u8]) -> Piece<'t>
     }
     match skip_gap(Language::Dtc, s) {
         Ok(rest) => Piece::Passed(rest),
-        Err(_) => Piece::Open,
+        Err(comment) => Piece::Open(opening(comment, 2)),
     }
 }
 
@@ -149,7 +169,7 @@ fn begins_line_comment(s: &[u8]) -> bool
     }
 }
 
-/// Words that name a file, where their keyword stands.
+/// Words that name a file, where their keyword stands; another keyword is passed whole, as a comment may stand right behind it.
 fn words_at<'t>(s: &'t [u8]) -> Piece<'t>
     requires slash { begins 47 s.now ≡ true }
     requires remark { begins_remark s.now ≡ false }
@@ -161,7 +181,8 @@ fn words_at<'t>(s: &'t [u8]) -> Piece<'t>
     if begins_incbin(s) {
         return incbin_at(s);
     }
-    Piece::Passed(behind(s, 1))
+    let (_, len) = solidus(Language::Dtc, behind(s, 1));
+    Piece::Passed(behind(s, len + 1))
 }
 
 fn begins_include(s: &[u8]) -> bool

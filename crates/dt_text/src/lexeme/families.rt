@@ -218,8 +218,8 @@ fn keyword_in(language: Language, s: &[u8]) -> Option<Kind>
     }
 }
 
-// A keyword, or the slash alone.
-fn solidus(language: Language, s: &[u8]) -> (Kind, usize)
+/// A keyword, or the slash alone.
+pub(crate) fn solidus(language: Language, s: &[u8]) -> (Kind, usize)
     ensures { Longest (slashed language) s.now (Some result) }
 {
     let Some(n) = word_end(s) else {

@@ -5,11 +5,11 @@ use Rattle.std.specs.Option.{option_map_or}
 use Rattle.std.specs.Int.{from_be_bytes, w32}
 use Rattle.std.proofs.lemmas.Bool.Decides.{Decides-eqb}
 use Rattle.dtman_blobs.specs.declared.difference.parts.Seen.{Seen}
-use Rattle.dtman_blobs.specs.declared.difference.reference_table.Form.{Form as CodeForm}
+use Rattle.dtman_blobs.specs.declared.difference.form.Form.{Form as CodeForm}
 use Rattle.dtman_blobs.specs.Difference.Named.{NamedNode, named_by}
 use Rattle.dtman_blobs.specs.Difference.Private.Left.{seen_left}
-use Rattle.dtman_blobs.specs.Difference.Private.Rows.{form_data}
-use Rattle.dtman_blobs.specs.Difference.ReferenceTable.{Form}
+use Rattle.dtman_blobs.specs.Difference.Private.FormView.{form_data}
+use Rattle.dtman_blobs.specs.Difference.Forms.{Form}
 use Rattle.dtman_blobs.specs.Difference.Seen.{Part, number, plain, phandle_part, cells_behind, cells_seen}
 
 module _ (names : ℕ → Option NamedNode) (form : Form) where

@@ -4,7 +4,7 @@ pub mod Kept
 pub mod Left
 pub mod Listed
 pub mod Orders
-pub mod Rows
+pub mod FormView
 pub mod Sights
 pub mod Tests
 pub mod Things

@@ -6,7 +6,7 @@ use Rattle.std.specs.Int.{from_be_bytes, w32}
 use Rattle.dt_tree.specs.Cell.{cell_in}
 use Rattle.dt_tree.specs.PathMap.{value_of}
 use Rattle.dtman_blobs.specs.Difference.Named.{NamedNode}
-use Rattle.dtman_blobs.specs.Difference.ReferenceTable.{Form, counted, bare, reference_form}
+use Rattle.dtman_blobs.specs.Difference.Forms.{Form, counted, bare, mapped, cells_before, reference_form}
 
 -- a part of a value: bytes as they are, or the path of a node
 pub data Part : Type 0 where
@@ -27,13 +27,14 @@ phandle_part bytes (Some named) = node named.path
 abbrev pub count_in : NamedNode → List ℕ → ℕ
 count_in named name = unwrap_or (option_and_then cell_in (value_of named.properties name)) 0
 
--- how many cells stand behind a phandle
+-- how many cells stand behind a phandle, up to the next one
 abbrev pub cells_behind : Form → Option NamedNode → ℕ
-cells_behind form None = 0
+cells_behind (counted name) None = 0
 cells_behind (counted name) (Some named) = count_in named name
-cells_behind bare (Some named) = 0
+cells_behind bare named = 0
+cells_behind mapped named = 3
 
--- cells of four bytes, a phandle first; so many at the front belong to the phandle before
+-- cells of four bytes, a phandle first; so many at the front belong to the phandle before, or stand before the first
 abbrev pub cells_seen : (ℕ → Option NamedNode) → Form → ℕ → List ℕ → List Part
 cells_seen named_by form left (a ∷ b ∷ c ∷ d ∷ more) =
     if left == 0
@@ -43,4 +44,4 @@ cells_seen named_by form left bytes = plain bytes
 
 -- the value of a property
 abbrev pub seen : (ℕ → Option NamedNode) → List ℕ → List ℕ → List Part
-seen named_by name value = option_map_or (λ form. cells_seen named_by form 0 value) (reference_form name) (plain value)
+seen named_by name value = option_map_or (λ form. cells_seen named_by form (cells_before form) value) (reference_form name) (plain value)

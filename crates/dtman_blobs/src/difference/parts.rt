@@ -4,13 +4,13 @@ ghost use Rattle.std.specs.Option.{option_copied};
 ghost use Rattle.dtman_blobs.specs.Difference.Named.{named_by};
 ghost use Rattle.dtman_blobs.specs.Difference.Seen.{cells_behind, count_in, phandle_part, plain, seen};
 ghost use Rattle.dtman_blobs.specs.Difference.Private.Left.{seen_left};
-ghost use Rattle.dtman_blobs.specs.Difference.Private.Rows.{form_data};
+ghost use Rattle.dtman_blobs.specs.Difference.Private.FormView.{form_data};
 ghost use Rattle.dtman_blobs.specs.Difference.Private.Sights.{IsCellSplit, IsNextPart};
 ghost use Rattle.dtman_blobs.specs.Difference.Private.Tests.{same_part, same_parts};
 ghost use Rattle.dtman_blobs.specs.Difference.Private.Views.{part_data};
 
+use crate::difference::form::Form;
 use crate::difference::naming::{Named, Naming};
-use crate::difference::reference_table::Form;
 use dt_tree::{cell_at, cell_in};
 
 /// A part of a value: bytes as they are, or the path of a node that a phandle names, of the root nothing.
@@ -61,9 +61,11 @@ fn count_in(named: &Named<'_>, name: &[u8]) -> u32
 fn cells_behind(form: Form, named: Option<&Named<'_>>) -> u32
     ensures { result ≡ cells_behind (form_data form) (option_copied named.entry) }
 {
-    match (named, form) {
-        (Some(named), Form::Counted(name)) => count_in(named, name),
-        _ => 0,
+    match (form, named) {
+        (Form::Counted(_), None) => 0,
+        (Form::Counted(name), Some(named)) => count_in(named, name),
+        (Form::Bare, _) => 0,
+        (Form::Mapped, _) => 3,
     }
 }
 
@@ -72,10 +74,15 @@ impl<'a, 't> Seen<'a, 't> {
     pub fn of(naming: &'a Naming<'t>, name: &[u8], value: &'a [u8]) -> Self
         ensures { seen_left result ≡ seen (named_by naming.now) name.now value.now }
     {
+        let form = Form::of(name);
+        let left = match form {
+            None => 0,
+            Some(form) => form.cells_before(),
+        };
         Self {
             naming,
-            form: Form::of(name),
-            left: 0,
+            form,
+            left,
             rest: value,
         }
     }

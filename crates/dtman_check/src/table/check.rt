@@ -15,7 +15,7 @@ pub enum Severity {
 }
 
 /// Which nodes a check looks at.
-#[derive(Clone, Copy, Debug)]
+#[derive(Clone, Copy)]
 pub enum Among {
     All,
     /// Those with a property of this name.
@@ -35,7 +35,7 @@ pub enum Among {
 }
 
 /// Which lists of phandles a check looks into.
-#[derive(Clone, Copy, Debug)]
+#[derive(Clone, Copy)]
 pub enum Listed {
     /// That of this name.
     Named(&'static [u8]),
@@ -44,7 +44,7 @@ pub enum Listed {
 }
 
 /// What a check looks for.
-#[derive(Clone, Copy, Debug)]
+#[derive(Clone, Copy)]
 pub enum Finds {
     /// Nothing that a tree can have: who made it refused it.
     Nothing,
@@ -65,7 +65,7 @@ pub enum Finds {
 }
 
 /// A check. Others are named by their places in the table.
-#[derive(Clone, Copy, Debug)]
+#[derive(Clone, Copy)]
 pub struct Check {
     pub name: &'static str,
     pub severity: Severity,

@@ -20,7 +20,7 @@ use dt_check::{
 use dt_tree::Property;
 
 /// A rule about a node and the one above it.
-#[derive(Clone, Copy, Debug)]
+#[derive(Clone, Copy)]
 pub enum Rule {
     IsString(&'static [u8]),
     IsStringList(&'static [u8]),
@@ -68,7 +68,7 @@ pub enum Rule {
 }
 
 /// A rule about a property.
-#[derive(Clone, Copy, Debug)]
+#[derive(Clone, Copy)]
 pub enum PropertyRule {
     Names,
     Byte,
@@ -77,7 +77,7 @@ pub enum PropertyRule {
 }
 
 /// A rule about a node and those that it leads to.
-#[derive(Clone, Copy, Debug)]
+#[derive(Clone, Copy)]
 pub enum LinkRule {
     Phandle(&'static [u8]),
     PhandlesDiffer,

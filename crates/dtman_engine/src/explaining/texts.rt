@@ -372,3 +372,80 @@ pub(super) const FILE_TOO_LONG: Texts = (
     "a file of 268,435,457 bytes",
     "Give the right file.",
 );
+
+pub(super) const NO_HEADER: Texts = (
+    "NoHeader",
+    "A file that `#include` names is in none of the folders where it is looked for.",
+    "`#include <none.h>`",
+    "Name its folder by `-I`; behind `<` the folder of the file that names it isn't looked into.",
+);
+
+pub(super) const NESTED_TOO_DEEP: Texts = (
+    "NestedTooDeep",
+    "Files, calls of macros or macros within macros are nested deeper than 200.",
+    "`a.dts` with the line `#include \"a.dts\"`",
+    "Look for a file that includes itself: put `#ifndef` and `#define` round what it says.",
+);
+
+pub(super) const TOO_MANY_TOKENS: Texts = (
+    "TooManyTokens",
+    "One line comes to more than 4,000,000 tokens, or a macro has more than 256 parameters.",
+    "22 macros, each twice the one before",
+    "Look at what the macros of the line stand for.",
+);
+
+pub(super) const TEXT_TOO_LONG: Texts = (
+    "TextTooLong",
+    "The text with all that it includes comes to more than 67,108,864 bytes.",
+    "a file of 67,108,865 bytes",
+    "Include less; `/incbin/` takes the bytes of a file in.",
+);
+
+pub(super) const OPEN_COMMENT: Texts = (
+    "OpenComment",
+    "A comment begins with `/*` and isn't closed in its file.",
+    "`/* a`",
+    "Close it by `*/`.",
+);
+
+pub(super) const UNSERVED: Texts = (
+    "Unserved",
+    "Something of the C preprocessor that device trees don't use, and that isn't there: other directives, an `#include` of a macro, `?:` or characters in a condition, `__FILE__`, `__LINE__` and the like.",
+    "`#pragma once`",
+    "Do without it, or run the C preprocessor before (`cpp -nostdinc -undef -x assembler-with-cpp`), and give `--no-cpp`.",
+);
+
+pub(super) const BAD_DIRECTIVE: Texts = (
+    "BadDirective",
+    "A directive isn't formed as C11, section 6.10, says.",
+    "`#define 1`",
+    "Look at the word that is named.",
+);
+
+pub(super) const BAD_CONDITION: Texts = (
+    "BadCondition",
+    "The expression of `#if` or `#elif` has no value.",
+    "`#if 1 +`",
+    "A name that is no macro counts as 0; the expression ends with its line.",
+);
+
+pub(super) const BAD_CALL: Texts = (
+    "BadCall",
+    "A macro is called with another number of arguments than it has parameters, or the call isn't closed in its file.",
+    "`#define F(a, b) a b` and `F(1)`",
+    "Look at the commas and the parentheses of the call.",
+);
+
+pub(super) const BAD_CONDITIONAL: Texts = (
+    "BadConditional",
+    "`#else`, `#elif` or `#endif` stands without its `#if`, or an `#if` isn't closed in its file.",
+    "`#endif`",
+    "Look at the `#if` before it; each is closed in its own file.",
+);
+
+pub(super) const ERROR_DIRECTIVE: Texts = (
+    "ErrorDirective",
+    "The source says by `#error` that it can't be compiled so.",
+    "`#error choose a board`",
+    "Do what its text says; often a macro has to be given by `-D`.",
+);

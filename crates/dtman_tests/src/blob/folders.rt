@@ -2,7 +2,7 @@
 
 use crate::runs::{Left, left_by};
 use crate::shelf::{Shelf, Things};
-use dtman_cli::EntryKind;
+use dtman_host::EntryKind;
 use std::hash::RandomState;
 use std::process::Abort;
 use std::thread::Threads;
@@ -11,6 +11,8 @@ const FILES: &[(&str, &[u8])] = &[
     ("tree/model", b"one\0"),
     ("tree/name", b"\0"),
     ("tree/cpus/cpu@5/reg", b"\0\0\0\x05"),
+    ("tree/cpus/cpu@5/name", b"cpu\0"),
+    ("tree/b@1/s", b"a\x001\0"),
 ];
 
 const FOLDERS: &[(&str, Things<'_>)] = &[
@@ -25,11 +27,15 @@ const FOLDERS: &[(&str, Things<'_>)] = &[
         ],
     ),
     ("tree/cpus", &[("cpu@5", EntryKind::Folder)]),
-    ("tree/cpus/cpu@5", &[("reg", EntryKind::File)]),
-    ("tree/b@1", &[]),
+    (
+        "tree/cpus/cpu@5",
+        &[("reg", EntryKind::File), ("name", EntryKind::File)],
+    ),
+    ("tree/b@1", &[("s", EntryKind::File)]),
     ("loop", &[("loop", EntryKind::Folder)]),
 ];
 
+// A `name` that says its node's name goes, and a zero byte before a digit has three.
 /// The words, the exit status, and what is told and printed.
 type Row = (&'static [&'static str], u8, &'static [u8]);
 
@@ -37,7 +43,7 @@ const ROWS: &[Row] = &[
     (
         &["dtc", "-q", "-I", "fs", "-O", "dts", "tree"],
         0,
-        b"/dts-v1/;\n\n/ {\n\tmodel = \"one\";\n\tname = [00];\n\n\tcpus {\n\n\t\tcpu@5 {\n\t\t\treg = <0x05>;\n\t\t};\n\t};\n\n\tb@1 {\n\t};\n};\n",
+        b"/dts-v1/;\n\n/ {\n\tmodel = \"one\";\n\n\tcpus {\n\n\t\tcpu@5 {\n\t\t\treg = <0x05>;\n\t\t};\n\t};\n\n\tb@1 {\n\t\ts = \"a\\0001\";\n\t};\n};\n",
     ),
     // a folder is known to be one, and a slash may end its path
     (
@@ -48,7 +54,7 @@ const ROWS: &[Row] = &[
     (
         &["dtc", "-q", "-I", "fs", "tree/b@1"],
         0,
-        b"/dts-v1/;\n\n/ {\n};\n",
+        b"/dts-v1/;\n\n/ {\n\ts = \"a\\0001\";\n};\n",
     ),
     (
         &["dtc", "-I", "fs", "none"],

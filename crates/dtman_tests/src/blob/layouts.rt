@@ -1,7 +1,7 @@
 //! Sources in dtc's layout. What is wanted is what `dtc -I dtb -O dts` of dtc 1.6.1 prints.
 
 use super::boards::CLOCKED;
-use dtman_cli::dtc::{Texts, layout_bytes};
+use dtman_layout::{Texts, layout_bytes};
 use std::process::Abort;
 
 /// Values of all forms, as dtc 1.6.1 compiles them, and two reservations.

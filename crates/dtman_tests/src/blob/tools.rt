@@ -48,6 +48,17 @@ const ROWS: &[Row] = &[
         status: 0,
         text: b"clk\nu@1\n",
     },
+    // what is asked for last is listed
+    Row {
+        words: &["fdtget", "-p", "-l", "f", "/"],
+        status: 0,
+        text: b"clk\nu@1\n",
+    },
+    Row {
+        words: &["fdtget", "-lp", "f", "/u"],
+        status: 0,
+        text: b"clocks\nstatus\n",
+    },
     Row {
         words: &["fdtget", "f", "/u", "none"],
         status: 1,

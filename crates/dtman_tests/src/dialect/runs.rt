@@ -99,6 +99,16 @@ const DTC_RUNS: &[Row] = &[
         0,
         "/dts-v1/;\n\n/ {\n};\n",
     ),
+    (
+        &["dtc", "-o", "x.DTS", "one.dts"],
+        0,
+        "/dts-v1/;\n\n/ {\n};\n",
+    ),
+    (
+        &["dtc", "-o", "x.yaml", "one.dts"],
+        1,
+        "Error: dtc's -o x.yaml isn't there in dtman\n",
+    ),
     // the input's name says that it is a blob
     (
         &["dtc", "-O", "dts", "text.dtb"],
@@ -110,10 +120,11 @@ const DTC_RUNS: &[Row] = &[
         0,
         "-: <stdin>\n",
     ),
+    // the file of dependencies comes first, then an empty x
     (
         &["dtc", "-d", "-", "-o", "x", "-O", "null", "one.dts"],
         0,
-        "x: one.dts\n",
+        "",
     ),
     (
         &["dtc", "-p", "1", "-S", "2"],

@@ -1,7 +1,8 @@
-//! What an engine answers, as the tables tell it.
+//! What the engines answer, as the tables tell it, and an overlay that many of them try.
 
-use dtman_engine::{Fault, dump_bytes};
+use dtman_engine::{Fault, compile_bytes};
 use std::alloc::Global;
+use std::hash::RandomState;
 use std::process::Abort;
 
 /// What the program would print for an answer: the answer, or the line that tells the refusal.
@@ -15,10 +16,30 @@ pub(crate) fn printed(rt: &impl Abort, alloc: Global, answer: Result<Vec<u8>, Fa
     }
 }
 
-/// A blob as its canonical source without the first two lines; a refusal's line, which is no blob, stays as it is.
-pub(crate) fn as_source(rt: &impl Abort, alloc: Global, printed: Vec<u8>) -> Vec<u8> {
-    match dump_bytes(alloc, printed.as_slice()) {
-        Ok(text) => Vec::from_slice(alloc, &text.as_slice()[11..]).expect(rt, "memory"),
-        Err(_) => printed,
+/// The blob of a source, or the line that tells why there is none.
+pub(crate) fn compiled(
+    rt: &impl Abort,
+    alloc: Global,
+    hasher: RandomState,
+    source: &str,
+    symbols: bool,
+) -> Vec<u8> {
+    let answer = compile_bytes(alloc, hasher, source.as_bytes(), symbols);
+    printed(rt, alloc, answer)
+}
+
+pub(crate) const BASE: &str = "/dts-v1/; / { ocp: ocp { }; };";
+
+/// An overlay whose one fragment has 62 nodes one below the other, the deepest that a blob can have there.
+pub(crate) fn deep_overlay(rt: &impl Abort, alloc: Global, target: &str) -> String {
+    let mut nodes = String::new(alloc);
+    let mut ends = String::new(alloc);
+    for _ in 0..62u8 {
+        nodes.push_str("n { ").expect(rt, "memory");
+        ends.push_str("}; ").expect(rt, "memory");
     }
+    let source = format!(in alloc;
+        "/dts-v1/; / {{ fragment@0 {{ target-path = \"{target}\"; __overlay__ {{ {nodes}{ends}}}; }}; }};"
+    );
+    source.expect(rt, "memory")
 }

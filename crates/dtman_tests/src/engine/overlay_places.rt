@@ -2,8 +2,7 @@
 //!
 //! What a row tells is worked by hand from dtc's dt-object-internal and the rules of fixups.
 
-use crate::engine::compiling::compiled;
-use crate::engine::overlaying::{BASE, deep_overlay};
+use crate::engine::answers::{BASE, compiled, deep_overlay};
 use dtman_diagnosis::{OverlayCulprit, diagnose_overlay, example_of, text_of};
 use dtman_engine::{BlobRole, Culprit, Fault, Unread, overlay_bytes};
 use std::alloc::Global;

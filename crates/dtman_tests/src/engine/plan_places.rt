@@ -2,8 +2,7 @@
 //!
 //! What a row tells is worked by hand from the supplier table and the specifiers of the Devicetree Specification, section 2.5.
 
-use crate::engine::answers::printed;
-use crate::engine::compiling::compiled;
+use crate::engine::answers::{compiled, printed};
 use dtman_diagnosis::{diagnose_plan, example_of, text_of};
 use dtman_engine::{Culprit, plan_bytes};
 use std::alloc::Global;

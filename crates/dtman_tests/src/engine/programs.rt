@@ -6,6 +6,7 @@ mod dtc;
 mod help;
 mod objects;
 mod overlaying;
+mod preprocessing;
 mod probing;
 mod questions;
 mod replaying;

@@ -25,7 +25,7 @@ use Rattle.dt_text.specs.Include.Inclusion.{Includes, IncludesFrom, MayNest, Pie
 use Rattle.dt_text.specs.Include.Private.Places.{place_of}
 use Rattle.dt_text.specs.Include.Shortfall.{IsTooLong, Puts, StopsAt}
 use Rattle.dt_text.specs.Include.UserLines.{UserPlace, first_of, marker_line, marker_of, place_behind, plain_of}
-use Rattle.dt_text.specs.Include.Words.{Bracketed, HasNext, HoldsNone, IsBroken, IsOpen, NamesFile, Passes, Quoted, Sign, name_of}
+use Rattle.dt_text.specs.Include.Words.{Bracketed, HasNext, IsBroken, IsOpen, MayEnd, NamesFile, Passes, Quoted, Sign, name_of}
 
 -- ---- a word that was read, and what is left behind it
 
@@ -68,12 +68,22 @@ abbrev pub IsPiece : List ℕ → words.Piece → Type 0
 IsPiece s (pieces.Words inclusion stand) = (stand.from.now ≡ s) × NamesFile s inclusion stand.rest.now
 IsPiece s (pieces.Broken stand) = IsBroken s
 IsPiece s (pieces.Passed rest) = (length rest.now < length s) × ((t : List ℕ) → Passes rest.now t → Passes s t)
-IsPiece s pieces.Open = IsOpen s
+IsPiece s (pieces.Open stand) = IsOpen s
 
-abbrev pub IsNext : List ℕ → Next → Type 0
-IsNext s (nexts.Words inclusion stand) = Passes s stand.from.now × NamesFile stand.from.now inclusion stand.rest.now
-IsNext s (nexts.Broken stand) = (t : List ℕ) × Passes s t × IsBroken t
-IsNext s nexts.Nothing = HoldsNone s
+-- a text is broken off here
+abbrev pub BreaksAt : (nested : Bool) → List ℕ → Type 0
+BreaksAt nested s = IsBroken s ⊎ ((nested ≡ true) × IsOpen s)
+
+abbrev pub IsNext : (nested : Bool) → List ℕ → Next → Type 0
+IsNext nested s (nexts.Words inclusion stand) = Passes s stand.from.now × NamesFile stand.from.now inclusion stand.rest.now
+IsNext nested s (nexts.Broken stand) = (t : List ℕ) × Passes s t × BreaksAt nested t
+IsNext nested s nexts.Nothing = MayEnd nested s
+
+-- what is next where something is open to the text's end
+abbrev pub IsOpenEnd : (nested : Bool) → Next → Type 0
+IsOpenEnd nested (nexts.Words inclusion stand) = ⊥
+IsOpenEnd nested (nexts.Broken stand) = nested ≡ true
+IsOpenEnd nested nexts.Nothing = nested ≡ false
 
 -- ---- while files are open
 
@@ -112,7 +122,7 @@ pub record ComesTo (Finds : List ℕ → List ℕ → Found → Type 0) (frame :
   pub passed : List Piece
   pub more : List Piece
   pub behind : Behind frame passed
-  pub rest : IncludesFrom Finds frame.path.items (place_on frame) (drop frame.words.end frame.bytes.items) more
+  pub rest : IncludesFrom Finds frame.nested frame.path.items (place_on frame) (drop frame.words.end frame.bytes.items) more
   pub said_is : said ≡ passed ++ more
 
 -- what is left of all open files comes to, from the innermost on, which stands last
@@ -128,7 +138,7 @@ first_marker found = plain (marker_line 1 (plain_of found.path.items))
 abbrev pub TurnsTo : (List ℕ → List ℕ → Found → Type 0) → Frame → Frame → Turn → List Piece → Type 0
 TurnsTo Finds old new End put = ComesTo Finds old put
 TurnsTo Finds old new Again put = (own : List Piece) → ComesTo Finds new own → ComesTo Finds old (put ++ own)
-TurnsTo Finds old new (Into found) put = (inner own : List Piece) → Includes Finds found.path.items found.bytes.items inner → ComesTo Finds new own
+TurnsTo Finds old new (Into found) put = (inner own : List Piece) → Includes Finds true found.path.items found.bytes.items inner → ComesTo Finds new own
     → ComesTo Finds old (put ++ first_marker found ++ inner ++ own)
 
 -- What the next turn begins with: what is put for the words that were read last, and the place that is reached there.
@@ -138,6 +148,7 @@ pub record IsPassed (old new : Frame) (whole grown : Whole) : Type 0 where
   pub line_is : place_of new.line ≡ place_on old
   pub grown_is : Adds whole grown put
   pub path_is : new.path ≡ old.path
+  pub nested_is : new.nested ≡ old.nested
   pub bytes_is : new.bytes ≡ old.bytes
   pub words_is : new.words ≡ old.words
 
@@ -158,6 +169,7 @@ IsTaken Finds beside (inclusions.Binary name) whole grown (Into found) = ⊥
 pub record Enters (frames : List Frame) (frame : Frame) (found : Found) (opened : List Frame) : Type 0 where
   pub inner : Frame
   pub path_is : inner.path ≡ found.path
+  pub nested_is : inner.nested ≡ true
   pub bytes_is : inner.bytes ≡ found.bytes
   pub words_is : inner.words.end ≡ 0
   pub line_is : place_of inner.line ≡ first_of found.path.items
@@ -183,6 +195,7 @@ pub record Advances (Finds : List ℕ → List ℕ → Found → Type 0) (old ne
   pub next : HasNext (drop old.words.end old.bytes.items) inclusion before (drop new.words.end new.bytes.items)
   pub finds : Finds old.path.items (name_of inclusion) found
   pub path_is : new.path ≡ old.path
+  pub nested_is : new.nested ≡ old.nested
 
 abbrev pub Moves : (List ℕ → List ℕ → Found → Type 0) → Frame → Frame → Turn → Type 0
 Moves Finds old new End = Unit {0}
@@ -233,7 +246,7 @@ PutsTo Finds old new End put = PutsFrom Finds old put
 PutsTo Finds old new Again put = PutsFrom Finds old put × ((more : List Piece) → PutsFrom Finds new more → PutsFrom Finds old (put ++ more))
 PutsTo Finds old new (Into found) put = PutsFrom Finds old put
     × ((more : List Piece) → Puts Finds found.path.items found.bytes.items more → PutsFrom Finds old (put ++ first_marker found ++ more))
-    × ((inner more : List Piece) → Includes Finds found.path.items found.bytes.items inner → PutsFrom Finds new more
+    × ((inner more : List Piece) → Includes Finds true found.path.items found.bytes.items inner → PutsFrom Finds new more
     → PutsFrom Finds old (put ++ first_marker found ++ inner ++ more))
 
 -- bytes that are wanting to the two that each turn puts at least: where no words were read yet, the file's first line marker has them
@@ -261,4 +274,4 @@ StopsIn Finds Lacks frame text NoMemory = Unit {0}
 StopsIn Finds Lacks frame text (NoFile name) = (opened : ℕ) → StopsAt Finds Lacks opened frame.path.items (drop frame.words.end frame.bytes.items) (NoFile name)
 StopsIn Finds Lacks frame text TooDeep = ⊥
 StopsIn Finds Lacks frame text TooLong = (put : List Piece) × PutsFrom Finds frame put × IsTooLong (text ++ text_of put)
-StopsIn Finds Lacks frame text Syntax = (opened : ℕ) → StopsAt Finds Lacks opened frame.path.items (drop frame.words.end frame.bytes.items) Syntax
+StopsIn Finds Lacks frame text Syntax = (opened : ℕ) → (frame.nested ≡ true → 1 < opened) → StopsAt Finds Lacks opened frame.path.items (drop frame.words.end frame.bytes.items) Syntax

@@ -3,7 +3,7 @@ use Rattle.std.specs.Prelude.{List}
 use Rattle.std.specs.Option.{option_map_or}
 use Rattle.dtman_blobs.specs.declared.difference.parts.Seen.{Seen}
 use Rattle.dtman_blobs.specs.Difference.Named.{named_by}
-use Rattle.dtman_blobs.specs.Difference.Private.Rows.{form_data}
+use Rattle.dtman_blobs.specs.Difference.Private.FormView.{form_data}
 use Rattle.dtman_blobs.specs.Difference.Seen.{Part, plain, cells_seen}
 
 abbrev pub seen_left : Seen → List Part

@@ -1,6 +1,6 @@
 -- A name is that of the first list that has the number.
 use Rattle.std.specs.Prelude.{◌++◌}
-use Rattle.dtman_engine.specs.Explain.{memory_faults, source_faults, build_faults, blob_faults, overlay_faults, text_faults, event_faults, run_faults, file_faults}
+use Rattle.dtman_engine.specs.Explain.{memory_faults, source_faults, build_faults, blob_faults, overlay_faults, text_faults, event_faults, run_faults, file_faults, preprocess_faults}
 use Rattle.dtman_engine.proofs.ExplainLemmas.{named-or}
 use Rattle.dtman_engine.proofs.explaining.texts_of.Goals as goal
 
@@ -19,4 +19,6 @@ returns c =
     let of-event = named-or _ _ _ _ to-text event_faults number c.or-6.ensures of-text c.of_event.ensures in
     let to-event = to-text ++ event_faults in
     let of-run = named-or _ _ _ _ to-event run_faults number c.or-7.ensures of-event c.of_run.ensures in
-    named-or _ _ _ _ (to-event ++ run_faults) file_faults number c.or-8.ensures of-run c.of_file.ensures
+    let to-run = to-event ++ run_faults in
+    let of-file = named-or _ _ _ _ to-run file_faults number c.or-8.ensures of-run c.of_file.ensures in
+    named-or _ _ _ _ (to-run ++ file_faults) preprocess_faults number c.or-9.ensures of-file c.of_preprocessor.ensures

@@ -144,6 +144,24 @@ const ROWS: &[Row] = &[
         "error 30 Truncated\n",
     ),
     (
+        &["dtman", "check", "bad.dts", "board.dts", "short.dtb"],
+        1,
+        "board.dts:6.2-6: Warning (unit_address_vs_reg): /uart: has reg or ranges, but no unit address\n",
+        "error 20 UnknownLabel bad.dts\nerror 30 Truncated short.dtb\n",
+    ),
+    (
+        &["dtman", "check", "nix.dts", "bad.dts"],
+        3,
+        "",
+        "error 80 CannotRead nix.dts\nerror 20 UnknownLabel bad.dts\n",
+    ),
+    (
+        &["dtman", "check", "-v", "short.dtb", "bad.dts"],
+        1,
+        "",
+        "error 30 Truncated\nshort.dtb:0x4: the blob is cut\n = wanted is a header of 40 bytes\nerror 20 UnknownLabel\nbad.dts:3:10: no node has the label `nope`\n  |\n3 | \tp: a = <&nope>;\n  | \t        ^^^^^\n  = in /, property a\n",
+    ),
+    (
         &["dtman", "check", "nix.dts"],
         3,
         "",

@@ -3,8 +3,8 @@
 use super::compiling::BLOB;
 use crate::runs::{Files, Writing, rows_write};
 use dt_text::include::{Found, Incomplete, Shortfall};
-use dtman_cli::{Outcome, compile_dtc, in_user_file, shortfall_fault};
 use dtman_engine::{DtcOptions, Fault, Position};
+use dtman_host::{Outcome, compile_dtc, in_user_file, shortfall_fault};
 use std::alloc::{AllocError, Global};
 use std::hash::RandomState;
 use std::process::Abort;
@@ -39,6 +39,21 @@ const FILES: Files = &[
     ),
     ("five.dts", b"/dts-v1/;\n/include/ 5;\n"),
     ("quote.dts", b"/dts-v1/;\n\t/include/ \"a\n"),
+    (
+        "remark.dts",
+        b"/dts-v1/;\n/include/ \"remark.dtsi\" */ / { };\n",
+    ),
+    ("in/remark.dtsi", b"\n /* a\n"),
+    (
+        "text.dts",
+        b"/dts-v1/; / {\n/include/ \"text.dtsi\" \"; };\n",
+    ),
+    ("in/text.dtsi", b"a = \"b\n"),
+    (
+        "keyword.dts",
+        b"/dts-v1//* 1 */; / { a = <'A'>;\n/include/ \"none.dtsi\"\n};\n",
+    ),
+    ("in/none.dtsi", b""),
     ("deep.dts", b"\n/include/ \"deep.dts\"\n"),
 ];
 
@@ -72,7 +87,13 @@ const FIVE: &str =
     "error 10 Syntax line 2\nfive.dts:2:11: `5` can't stand here\n  |\n2 | /include/ 5;\n  |           ^\n  = a file's name between quotes must follow, and numbers behind it in pairs\n";
 
 const QUOTE: &str =
-    "error 10 Syntax line 2\nquote.dts:2:12: what begins here isn't closed\n  |\n2 | \t/include/ \"a\n  | \t          ^\n  = a file's name between quotes must follow, and numbers behind it in pairs\n";
+    "error 10 Syntax line 2\nquote.dts:2:12: what begins here isn't closed\n  |\n2 | \t/include/ \"a\n  | \t          ^\n  = strings, comments and names of files end in their own file\n";
+
+const REMARK: &str =
+    "error 10 Syntax line 2\nin/remark.dtsi:2:2: what begins here isn't closed\n  |\n2 |  /* a\n  |  ^^\n  = strings, comments and names of files end in their own file\n";
+
+const TEXT: &str =
+    "error 10 Syntax line 1\nin/text.dtsi:1:5: what begins here isn't closed\n  |\n1 | a = \"b\n  |     ^\n  = strings, comments and names of files end in their own file\n";
 
 const DEEP: &str =
     "error 16 TooDeep line 2\ndeep.dts:2:1: `/include/ \"deep.dts\"` nests files deeper than 200\n  |\n2 | /include/ \"deep.dts\"\n  | ^^^^^^^^^^^^^^^^^^^^\n  = a file that takes itself in never ends\n";
@@ -80,121 +101,150 @@ const DEEP: &str =
 const LOST: &str =
     "error 80 CannotRead root.dtsi\nwhole.dts:2:1: no file can be read that is named `root.dtsi`\n  |\n2 | /include/ \"root.dtsi\"\n  | ^^^^^^^^^^^^^^^^^^^^^\n";
 
+const PLACES: &[Writing] = &[
+    (
+        &["dtman", "-v", "compile", "--dtc", "twice.dts", "out"],
+        1,
+        TWICE,
+        b"",
+    ),
+    (
+        &["dtman", "-v", "compile", "--dtc", "open.dts", "out"],
+        1,
+        OPEN,
+        b"",
+    ),
+    (
+        &["dtman", "-v", "compile", "--dtc", "sum.dts", "out"],
+        1,
+        SUM,
+        b"",
+    ),
+    (
+        &["dtman", "compile", "--dtc", "five.dts", "out"],
+        1,
+        "error 10 Syntax line 2\n",
+        b"",
+    ),
+    (
+        &["dtman", "-v", "compile", "--dtc", "five.dts", "out"],
+        1,
+        FIVE,
+        b"",
+    ),
+    (
+        &["dtman", "-v", "compile", "--dtc", "quote.dts", "out"],
+        1,
+        QUOTE,
+        b"",
+    ),
+    (
+        &[
+            "dtman",
+            "-v",
+            "compile",
+            "--dtc",
+            "-iin",
+            "remark.dts",
+            "out",
+        ],
+        1,
+        REMARK,
+        b"",
+    ),
+    (
+        &["dtman", "-v", "compile", "--dtc", "-iin", "text.dts", "out"],
+        1,
+        TEXT,
+        b"",
+    ),
+    (
+        &["dtman", "-v", "compile", "--dtc", "deep.dts", "out"],
+        1,
+        DEEP,
+        b"",
+    ),
+    (
+        &["dtman", "-v", "compile", "--dtc", "whole.dts", "out"],
+        3,
+        LOST,
+        b"",
+    ),
+];
+
 #[test]
 fn tells_where_the_user_wrote_it(rt: HostRuntime) {
-    const ROWS: &[Writing] = &[
-        (
-            &["dtman", "-v", "compile", "--dtc", "twice.dts", "out"],
-            1,
-            TWICE,
-            b"",
-        ),
-        (
-            &["dtman", "-v", "compile", "--dtc", "open.dts", "out"],
-            1,
-            OPEN,
-            b"",
-        ),
-        (
-            &["dtman", "-v", "compile", "--dtc", "sum.dts", "out"],
-            1,
-            SUM,
-            b"",
-        ),
-        (
-            &["dtman", "compile", "--dtc", "five.dts", "out"],
-            1,
-            "error 10 Syntax line 2\n",
-            b"",
-        ),
-        (
-            &["dtman", "-v", "compile", "--dtc", "five.dts", "out"],
-            1,
-            FIVE,
-            b"",
-        ),
-        (
-            &["dtman", "-v", "compile", "--dtc", "quote.dts", "out"],
-            1,
-            QUOTE,
-            b"",
-        ),
-        (
-            &["dtman", "-v", "compile", "--dtc", "deep.dts", "out"],
-            1,
-            DEEP,
-            b"",
-        ),
-        (
-            &["dtman", "-v", "compile", "--dtc", "whole.dts", "out"],
-            3,
-            LOST,
-            b"",
-        ),
-    ];
-    rows_write(&rt, FILES, ROWS);
+    rows_write(&rt, FILES, PLACES);
 }
+
+const SOURCES: &[Writing] = &[
+    (
+        &["dtman", "compile", "--dtc", "board.dts", "out"],
+        0,
+        "",
+        BLOB,
+    ),
+    (
+        &["dtman", "compile", "--dtc", "letter.dts", "out"],
+        0,
+        "",
+        LETTER,
+    ),
+    // what the profile takes too gets dtc's bytes
+    (
+        &["dtman", "compile", "--dtc", "cpus.dts", "out"],
+        0,
+        "",
+        CPUS,
+    ),
+    (
+        &["dtman", "compile", "--dtc", "lost.dts", "out"],
+        1,
+        "error 20 UnknownLabel\n",
+        b"",
+    ),
+    (
+        &["dtman", "compile", "--dtc", "-i", "in", "whole.dts", "out"],
+        0,
+        "",
+        BLOB,
+    ),
+    // a keyword with a comment right behind it
+    (
+        &["dtman", "compile", "--dtc", "-iin", "keyword.dts", "out"],
+        0,
+        "",
+        LETTER,
+    ),
+    (
+        &["dtman", "compile", "whole.dts", "out"],
+        1,
+        "error 10 Syntax line 2\n",
+        b"",
+    ),
+    (
+        &["dtman", "compile", "--dtc", "whole.dts", "out"],
+        3,
+        "error 80 CannotRead root.dtsi\n",
+        b"",
+    ),
+    (
+        &["dtman", "-v", "compile", "--dtc", "-iin", "far.dts", "out"],
+        1,
+        UNKNOWN,
+        b"",
+    ),
+    (
+        &["dtman", "-v", "compile", "--dtc", "bad.dts", "out"],
+        1,
+        SYNTAX,
+        b"",
+    ),
+];
 
 #[test]
 fn compiles_dtc_sources(rt: HostRuntime) {
-    const ROWS: &[Writing] = &[
-        (
-            &["dtman", "compile", "--dtc", "board.dts", "out"],
-            0,
-            "",
-            BLOB,
-        ),
-        (
-            &["dtman", "compile", "--dtc", "letter.dts", "out"],
-            0,
-            "",
-            LETTER,
-        ),
-        // what the profile takes too gets dtc's bytes
-        (
-            &["dtman", "compile", "--dtc", "cpus.dts", "out"],
-            0,
-            "",
-            CPUS,
-        ),
-        (
-            &["dtman", "compile", "--dtc", "lost.dts", "out"],
-            1,
-            "error 20 UnknownLabel\n",
-            b"",
-        ),
-        (
-            &["dtman", "compile", "--dtc", "-i", "in", "whole.dts", "out"],
-            0,
-            "",
-            BLOB,
-        ),
-        (
-            &["dtman", "compile", "whole.dts", "out"],
-            1,
-            "error 10 Syntax line 2\n",
-            b"",
-        ),
-        (
-            &["dtman", "compile", "--dtc", "whole.dts", "out"],
-            3,
-            "error 80 CannotRead root.dtsi\n",
-            b"",
-        ),
-        (
-            &["dtman", "-v", "compile", "--dtc", "-iin", "far.dts", "out"],
-            1,
-            UNKNOWN,
-            b"",
-        ),
-        (
-            &["dtman", "-v", "compile", "--dtc", "bad.dts", "out"],
-            1,
-            SYNTAX,
-            b"",
-        ),
-    ];
-    rows_write(&rt, FILES, ROWS);
+    rows_write(&rt, FILES, SOURCES);
 }
 
 /// No files.

@@ -27,6 +27,7 @@ fn help_fits_80_columns(rt: HostRuntime) {
     const PAGES: &[&[&str]] = &[
         &["dtman", "--help"],
         &["dtman", "compile", "--help"],
+        &["dtman", "cpp", "--help"],
         &["dtman", "overlay", "--help"],
         &["dtman", "dump", "--help"],
         &["dtman", "plan", "--help"],

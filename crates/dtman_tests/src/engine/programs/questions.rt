@@ -25,54 +25,68 @@ const FILES: Files = &[
         "modules.builtin.modinfo",
         b"fixed.alias=of:N*T*Cfixed-clock\0",
     ),
+    ("Image", b"MZ"),
+    ("vmlinuz.xz", b"\xfd7zXZ\0"),
+    ("vmlinuz.gz", b"\x1f\x8b\x08\0\0"),
+    (
+        "headed.drivers",
+        b"# drivers that are built into the kernel weren't looked at\ndriver ns ns16550a\n",
+    ),
     (
         "boot.log",
         b"really_probe: probing driver fixed with device clk\nreally_probe: bound device clk to driver fixed\nreally_probe: probing driver a with device b\n",
     ),
 ];
 
+const REASONS: &[Row] = &[
+    (&["dtman", "why", "board.dtb", "board.drivers"], 0, "", ""),
+    (
+        &["dtman", "why", "board.dtb", "board.drivers", "--check"],
+        0,
+        "",
+        "",
+    ),
+    (
+        &["dtman", "why", "board.dtb", "uart.drivers"],
+        0,
+        "/uart waits for /clk: no driver matches \"fixed-clock\"\n",
+        "",
+    ),
+    (
+        &["dtman", "why", "board.dtb", "failing.drivers", "--check"],
+        1,
+        "/uart waits for /clk: its driver fixed failed\n",
+        "",
+    ),
+    (
+        &["dtman", "why", "board.dtb", "board.drivers", "/uart"],
+        0,
+        "/uart: bound by ns\n",
+        "",
+    ),
+    (
+        &["dtman", "why", "board.dtb", "headed.drivers"],
+        0,
+        "/uart waits for /clk: no driver matches \"fixed-clock\" (built-in drivers weren't looked at)\n",
+        "",
+    ),
+    (
+        &["dtman", "why", "board.dtb", "uart.drivers", "/clk"],
+        0,
+        "/clk: no driver matches \"fixed-clock\"\n",
+        "",
+    ),
+    (
+        &["dtman", "why", "board.dtb", "uart.drivers", "/nix"],
+        1,
+        "",
+        "error 53 UnknownPath\n",
+    ),
+];
+
 #[test]
 fn answers_why(rt: HostRuntime) {
-    const ROWS: &[Row] = &[
-        (&["dtman", "why", "board.dtb", "board.drivers"], 0, "", ""),
-        (
-            &["dtman", "why", "board.dtb", "board.drivers", "--check"],
-            0,
-            "",
-            "",
-        ),
-        (
-            &["dtman", "why", "board.dtb", "uart.drivers"],
-            0,
-            "/uart waits for /clk: no driver matches \"fixed-clock\"\n",
-            "",
-        ),
-        (
-            &["dtman", "why", "board.dtb", "failing.drivers", "--check"],
-            1,
-            "/uart waits for /clk: its driver fixed failed\n",
-            "",
-        ),
-        (
-            &["dtman", "why", "board.dtb", "board.drivers", "/uart"],
-            0,
-            "/uart: bound by ns\n",
-            "",
-        ),
-        (
-            &["dtman", "why", "board.dtb", "uart.drivers", "/clk"],
-            0,
-            "/clk: no driver matches \"fixed-clock\"\n",
-            "",
-        ),
-        (
-            &["dtman", "why", "board.dtb", "uart.drivers", "/nix"],
-            1,
-            "",
-            "error 53 UnknownPath\n",
-        ),
-    ];
-    rows_end(&rt, FILES, ROWS);
+    rows_end(&rt, FILES, REASONS);
 }
 
 #[test]
@@ -133,34 +147,65 @@ fn probes_without_a_driver(rt: HostRuntime) {
     rows_end(&rt, FILES, ROWS);
 }
 
+const DRIVERS_AND_SCHEDULES: &[Row] = &[
+    (
+        &[
+            "dtman",
+            "drivers",
+            "modules.alias",
+            "modules.builtin.modinfo",
+        ],
+        0,
+        "# drivers that are built into the kernel weren't looked at\ndriver ns ns16550a\ndriver fixed fixed-clock\n",
+        "warning: modules.alias: line 3: left out: of:N*T*Ca,*b\n",
+    ),
+    (
+        &["dtman", "drivers", "modules.alias", "--kernel", "Image"],
+        0,
+        "driver ns ns16550a\n",
+        "warning: modules.alias: line 3: left out: of:N*T*Ca,*b\n",
+    ),
+    (
+        &[
+            "dtman",
+            "drivers",
+            "modules.alias",
+            "--kernel",
+            "vmlinuz.xz",
+        ],
+        3,
+        "",
+        "error: vmlinuz.xz: xz isn't unpacked here; `xz -dc vmlinuz.xz` does\n",
+    ),
+    (
+        &[
+            "dtman",
+            "drivers",
+            "modules.alias",
+            "--kernel",
+            "vmlinuz.gz",
+        ],
+        3,
+        "",
+        "error: vmlinuz.gz: the gzip file is cut off\n",
+    ),
+    (
+        &["dtman", "trace", "boot.log", "board.plan"],
+        0,
+        "begin /clk\nfinish /clk settled\n",
+        "warning: line 3: no device of the plan is b\n",
+    ),
+    (
+        &["dtman", "trace", "boot.log", "boot.log"],
+        1,
+        "",
+        "error 50 BadLine line 1\n",
+    ),
+];
+
 #[test]
 fn makes_drivers_and_schedules(rt: HostRuntime) {
-    const ROWS: &[Row] = &[
-        (
-            &[
-                "dtman",
-                "drivers",
-                "modules.alias",
-                "modules.builtin.modinfo",
-            ],
-            0,
-            "driver ns ns16550a\ndriver fixed fixed-clock\n",
-            "warning: modules.alias: line 3: left out: of:N*T*Ca,*b\n",
-        ),
-        (
-            &["dtman", "trace", "boot.log", "board.plan"],
-            0,
-            "begin /clk\nfinish /clk settled\n",
-            "warning: line 3: no device of the plan is b\n",
-        ),
-        (
-            &["dtman", "trace", "boot.log", "boot.log"],
-            1,
-            "",
-            "error 50 BadLine line 1\n",
-        ),
-    ];
-    rows_end(&rt, FILES, ROWS);
+    rows_end(&rt, FILES, DRIVERS_AND_SCHEDULES);
 }
 
 // Questions about a board by the links of Linux, and what is refused of them.

@@ -95,6 +95,7 @@ fn tells_help_on_standard_output_and_mistakes_on_standard_error(rt: HostRuntime)
         (&["dtman", "explain", "notready"], 0),
         (&["dtman", "explain", "NOTREADY"], 0),
         (&["dtman", "explain", "all"], 0),
+        (&["dtman", "explain", "checks"], 0),
         (&["dtman", "explain"], 0),
         (&["dtman", "explain", "every"], 2),
         (&["dtman", "replay", "--help"], 0),
@@ -111,6 +112,32 @@ fn tells_help_on_standard_output_and_mistakes_on_standard_error(rt: HostRuntime)
     }
 }
 
+/// What is said of checks: of one with a text of its own, of one of a form, and of one that finds nothing.
+#[test]
+fn tells_what_checks_mean(rt: HostRuntime) {
+    const ROWS: &[Row] = &[
+        (
+            &["dtman", "explain", "lost_ranges"],
+            0,
+            "lost_ranges (off)\na bus has no `ranges`, so that none of its devices has an address for the processor\nwhat to do: write `ranges;`, or the entries that translate its addresses\n",
+            "",
+        ),
+        (
+            &["dtman", "explain", "clocks_is_cell"],
+            0,
+            "clocks_is_cell (warning)\nthe number of cells (`#..-cells`) isn't one cell\nwhat to do: write one number in < >\n",
+            "",
+        ),
+        (
+            &["dtman", "explain", "duplicate_label"],
+            0,
+            "duplicate_label (error)\nit finds nothing by itself: what it is about is refused when the source is read, or other checks tell it\nwhat to do: nothing\n",
+            "",
+        ),
+    ];
+    rows_end(&rt, FILES, ROWS);
+}
+
 /// Words for which there is nothing, and what is spelled like them.
 #[test]
 fn tells_words_for_which_there_is_nothing(rt: HostRuntime) {
@@ -125,13 +152,13 @@ fn tells_words_for_which_there_is_nothing(rt: HostRuntime) {
             &["dtman", "explain", "every"],
             2,
             "",
-            "error: no error has the name every\n",
+            "error: no error or check has the name every\n",
         ),
         (
             &["dtman", "explain", "notredy"],
             2,
             "",
-            "error: no error has the name notredy; did you mean NotReady?\n",
+            "error: no error or check has the name notredy; did you mean NotReady?\n",
         ),
     ];
     rows_end(&rt, FILES, ROWS);

@@ -1,6 +1,6 @@
 //! Refusals in detail: the lines behind the first.
 
-use crate::engine::compiling::compiled;
+use crate::engine::answers::compiled;
 use crate::runs::{Files, Row, ends, rows_end, run_over};
 use crate::shelf::Shelf;
 use dtman_diagnosis::example_of;

@@ -1,7 +1,9 @@
 //! The command line.
 
 use clap::error::ErrorKind;
-use dtman_cli::{Board, Command, Inspection, Language, Links, Picture, command};
+use dtman_words::{
+    Board, Choice, Command, Definitions, Inspection, Language, Links, Picture, command,
+};
 use std::alloc::Global;
 
 /// The command that the words name, or the kind of their mistake.
@@ -78,10 +80,10 @@ fn reads_overlay_and_explain(rt: HostRuntime) {
 /// The folders that a command line names for dtc's language, or none where it doesn't ask for it.
 fn folders_of<'a>(alloc: Global, words: &'a [&'a str]) -> Result<Option<Vec<&'a str>>, ErrorKind> {
     match read(alloc, words)? {
-        Command::Compile {
-            language: Language::Dtc { folders },
-            ..
-        } => Ok(Some(folders)),
+        Command::Compile { language, .. } => match language {
+            Language::Dtc { folders } => Ok(Some(folders)),
+            Language::Profile => Ok(None),
+        },
         _ => Ok(None),
     }
 }
@@ -356,14 +358,15 @@ fn reads_needs(rt: HostRuntime) {
 
 #[test]
 fn reads_drivers_and_trace(rt: HostRuntime) {
-    let words = ["dtman", "drivers", "a", "m"];
+    let words = ["dtman", "drivers", "a", "m", "--kernel", "k"];
     let drivers = read(rt.alloc(), words.as_slice());
     assert!(rt;
         matches!(
             drivers,
             Ok(Command::Drivers {
                 aliases: "a",
-                builtin: Some("m")
+                builtin: Some("m"),
+                kernel: Some("k")
             })
         )
     );
@@ -386,4 +389,44 @@ fn reads_replay_with_its_workers(rt: HostRuntime) {
         let read = workers_of(rt.alloc(), "replay", ("--workers", number));
         assert_eq!(rt; read, workers, "{number}");
     }
+}
+
+fn definitions_of<'a>(
+    alloc: Global,
+    words: &'a [&'a str],
+) -> Result<Option<Definitions<'a>>, ErrorKind> {
+    match read(alloc, words)? {
+        Command::Preprocess { definitions, .. } => Ok(Some(definitions)),
+        Command::Compile { preprocessing, .. } => match preprocessing.choice {
+            Choice::Never => Ok(None),
+            _ => Ok(Some(preprocessing.definitions)),
+        },
+        _ => Ok(None),
+    }
+}
+
+#[test]
+fn reads_what_a_source_is_preprocessed_with(rt: HostRuntime) {
+    let words = [
+        "dtman",
+        "cpp",
+        "-DA",
+        "in",
+        "-I",
+        "a",
+        "--preinclude",
+        "first.h",
+        "-D",
+        "B=2 3",
+        "--include-dir=b",
+    ];
+    let Ok(Some(definitions)) = definitions_of(rt.alloc(), words.as_slice()) else {
+        panic!(&rt; "no definitions");
+    };
+    assert_eq!(&rt; definitions.folders.as_slice(), ["a", "b"].as_slice());
+    assert_eq!(&rt; definitions.defines.as_slice(), ["A", "B=2 3"].as_slice());
+    assert_eq!(&rt; definitions.preincluded.as_slice(), ["first.h"].as_slice());
+    let words = ["dtman", "compile", "--cpp", "in", "out", "--no-cpp"];
+    let never = definitions_of(rt.alloc(), words.as_slice());
+    assert!(&rt; matches!(never, Ok(None)));
 }

@@ -18,6 +18,7 @@ turns-init g c =
     let text = c.args.text.now in
     let frame : Frame = record {
       path = c.in_ok-from_slice.field-0;
+      nested = false;
       bytes = c.in_ok-from_slice-2.field-0;
       words = record { start = 0; end = 0 };
       stays = false;
@@ -30,8 +31,8 @@ turns-init g c =
     record {
       said = [];
       whole = record { text = c.new.ensures.items; files = ap (map stored_of) c.new-2.ensures.items };
-      under_way = begun_at finds path text frames frame one refl c.in_ok-first.ensures.file c.in_ok-first.ensures.line same_path same_text;
-      reached = begun_reached finds path text frames frame one refl same_path same_text;
+      under_way = begun_at finds path text frames frame one refl c.in_ok-first.ensures.file c.in_ok-first.ensures.line same_path refl same_text;
+      reached = begun_reached finds path text frames frame one refl same_path refl same_text;
       put = begun_put finds path text frames frame one refl same_path same_text;
       counted = begun_count frames frame c.new.result.items one;
       short = begun_short frames frame c.new.result.items one;

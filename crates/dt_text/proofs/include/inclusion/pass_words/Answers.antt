@@ -11,21 +11,21 @@ returns-then-frame-eq0 c = not_passed c.args.frame.now c.args.whole.now c.if-fra
 pub returns-then-frame : goal.returns-then-frame
 returns-then-frame c =
     let old = c.args.frame.now in
-    let new : Frame = record { path = old.path; bytes = old.bytes; words = old.words; stays = old.stays; line = c.advance.new.self } in
+    let new : Frame = record { path = old.path; nested = old.nested; bytes = old.bytes; words = old.words; stays = old.stays; line = c.advance.new.self } in
     let whole = c.args.whole.now in
     let grown : Whole = record { text = c.extend_from_slice.new.self; binaries = whole.binaries } in
     on-ok c.extend_from_slice.result
     (staying old new whole grown c.behind-words.result.now (omega (arith, c.if-frame-eq0.false))
-    (c.behind-words.ensures ∙ ap (drop old.words.start) (c.front.ensures ∙ ap (take old.words.end) c.as_slice.ensures.value)) c.in_ok-advance.ensures refl refl refl refl c.if-frame.true)
+    (c.behind-words.ensures ∙ ap (drop old.words.start) (c.front.ensures ∙ ap (take old.words.end) c.as_slice.ensures.value)) c.in_ok-advance.ensures refl refl refl refl refl c.if-frame.true)
     (on-ok-if c.extend_from_slice.result grown.text.items (whole.text.items ++ c.behind-words.result.now) whole.text.items c.extend_from_slice.ensures.items)
 
 pub returns : goal.returns
 returns c =
     let old = c.args.frame.now in
-    let new : Frame = record { path = old.path; bytes = old.bytes; words = old.words; stays = old.stays; line = c.advance.new.self } in
+    let new : Frame = record { path = old.path; nested = old.nested; bytes = old.bytes; words = old.words; stays = old.stays; line = c.advance.new.self } in
     let whole = c.args.whole.now in
     let grown : Whole = record { text = c.mark.new.text; binaries = whole.binaries } in
     on-ok c.mark.result
     (replaced old new whole grown c.behind-words.result.now (omega (arith, c.if-frame-eq0.false))
-    (c.behind-words.ensures ∙ ap (drop old.words.start) (c.front.ensures ∙ ap (take old.words.end) c.as_slice.ensures.value)) c.in_ok-advance.ensures refl refl refl refl c.if-frame.false)
+    (c.behind-words.ensures ∙ ap (drop old.words.start) (c.front.ensures ∙ ap (take old.words.end) c.as_slice.ensures.value)) c.in_ok-advance.ensures refl refl refl refl refl c.if-frame.false)
     c.mark.ensures

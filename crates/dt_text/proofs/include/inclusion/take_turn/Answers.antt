@@ -22,6 +22,7 @@ returns-else-len-gt-MAX_TEXT-clause-turned g c =
       next = c.in-Words.ensures;
       before_is = c.front-before.ensures ∙ ap (λ (n : ℕ). take n c.behind-left.result.now) c.saturating_sub.ensures;
       path_is = refl;
+      nested_is = refl;
       bytes_is = refl;
       starts_at = c.span_of-words.ensures.start ∙ ap (λ (b : List ℕ). length b - length c.in-Words.stand.from.now) c.as_slice-in-Words.ensures.value;
       ends_at = c.span_of-words.ensures.end ∙ ap (λ (b : List ℕ). length b - length c.in-Words.stand.rest.now) c.as_slice-in-Words.ensures.value;
@@ -53,6 +54,7 @@ returns-else-len-gt-MAX_TEXT-clause-moves g c =
       next = c.in-Words.ensures;
       before_is = c.front-before.ensures ∙ ap (λ (n : ℕ). take n c.behind-left.result.now) c.saturating_sub.ensures;
       path_is = refl;
+      nested_is = refl;
       bytes_is = refl;
       starts_at = c.span_of-words.ensures.start ∙ ap (λ (b : List ℕ). length b - length c.in-Words.stand.from.now) c.as_slice-in-Words.ensures.value;
       ends_at = c.span_of-words.ensures.end ∙ ap (λ (b : List ℕ). length b - length c.in-Words.stand.rest.now) c.as_slice-in-Words.ensures.value;
@@ -65,7 +67,7 @@ returns-else-len-gt-MAX_TEXT-clause-moves g c =
 pub returns-then-len-gt-MAX_TEXT-clause-stops : goal.returns-then-len-gt-MAX_TEXT-clause-stops
 returns-then-len-gt-MAX_TEXT-clause-stops g c =
     let mid = c.pass_words.new.frame in
-    let new : Frame = record { path = mid.path; bytes = mid.bytes; words = c.span_of-words.result; stays = c.stay-frame.result; line = c.advance.new.self } in
+    let new : Frame = record { path = mid.path; nested = mid.nested; bytes = mid.bytes; words = c.span_of-words.result; stays = c.stay-frame.result; line = c.advance.new.self } in
     let taken : Whole = record { text = c.extend_from_slice.new.self; binaries = c.pass_words.new.whole.binaries } in
     long_before g.F.Files.finds c.args.frame.now mid new c.in-Words.inclusion c.args.whole.now c.pass_words.new.whole taken
     (record {
@@ -78,6 +80,7 @@ returns-then-len-gt-MAX_TEXT-clause-stops g c =
       next = c.in-Words.ensures;
       before_is = c.front-before.ensures ∙ ap (λ (n : ℕ). take n c.behind-left.result.now) c.saturating_sub.ensures;
       path_is = refl;
+      nested_is = refl;
       bytes_is = refl;
       starts_at = c.span_of-words.ensures.start ∙ ap (λ (b : List ℕ). length b - length c.in-Words.stand.from.now) c.as_slice-in-Words.ensures.value;
       ends_at = c.span_of-words.ensures.end ∙ ap (λ (b : List ℕ). length b - length c.in-Words.stand.rest.now) c.as_slice-in-Words.ensures.value;
@@ -90,7 +93,7 @@ returns-then-len-gt-MAX_TEXT-clause-stops g c =
 pub returns-else-len-gt-MAX_TEXT-clause-stops : goal.returns-else-len-gt-MAX_TEXT-clause-stops
 returns-else-len-gt-MAX_TEXT-clause-stops g c =
     let mid = c.pass_words.new.frame in
-    let new : Frame = record { path = mid.path; bytes = mid.bytes; words = c.span_of-words.result; stays = c.stay-frame.result; line = c.advance.new.self } in
+    let new : Frame = record { path = mid.path; nested = mid.nested; bytes = mid.bytes; words = c.span_of-words.result; stays = c.stay-frame.result; line = c.advance.new.self } in
     err_weaker c.take_in.result _ _
     (λ reason h. lacking g.F.Files.finds g.F.Files.lacks c.args.frame.now mid new c.in-Words.inclusion reason c.args.whole.now c.pass_words.new.whole c.args.whole.now.text.items c.as_slice-in-Words-2.result.now
     (record {
@@ -103,6 +106,7 @@ returns-else-len-gt-MAX_TEXT-clause-stops g c =
       next = c.in-Words.ensures;
       before_is = c.front-before.ensures ∙ ap (λ (n : ℕ). take n c.behind-left.result.now) c.saturating_sub.ensures;
       path_is = refl;
+      nested_is = refl;
       bytes_is = refl;
       starts_at = c.span_of-words.ensures.start ∙ ap (λ (b : List ℕ). length b - length c.in-Words.stand.from.now) c.as_slice-in-Words.ensures.value;
       ends_at = c.span_of-words.ensures.end ∙ ap (λ (b : List ℕ). length b - length c.in-Words.stand.rest.now) c.as_slice-in-Words.ensures.value;

@@ -2,7 +2,7 @@ use Rattle.std.proofs.Common.{◌∷◌, ◌-◌, List, ap, sym, ◌∙◌}
 use Rattle.std.specs.Int.{from_be_bytes, w32}
 use Rattle.dtman_blobs.specs.Difference.Named.{named_by}
 use Rattle.dtman_blobs.specs.Difference.Seen.{Part, number}
-use Rattle.dtman_blobs.specs.Difference.Private.Rows.{form_data}
+use Rattle.dtman_blobs.specs.Difference.Private.FormView.{form_data}
 use Rattle.dtman_blobs.specs.Difference.Private.Views.{part_data}
 use Rattle.dtman_blobs.proofs.DifferenceLemmas.CellLemmas.{cell-whole, first-next, inside-next, left-next, left-of}
 use Rattle.dtman_blobs.proofs.difference.parts.Seen.next_part.Goals as goal

@@ -1,0 +1,3 @@
+pub mod Magic
+pub mod Packing
+pub mod Width

@@ -1,3 +1,0 @@
-pub mod DtcLemmas
-pub mod Making
-mod MetLemmas

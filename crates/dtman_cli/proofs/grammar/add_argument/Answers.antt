@@ -1,5 +1,0 @@
-use Rattle.dtman_cli.proofs.Making.{argument_added}
-use Rattle.dtman_cli.proofs.grammar.add_argument.Goals as goal
-
-pub returns : goal.returns
-returns c = λ app rule makes is. argument_added c.args.command c.in_ok-command.command c.args.argument c.arg.result app rule c.in_ok-command.was c.requires c.arg.ensures makes is

@@ -1,7 +1,0 @@
-use Rattle.dtman_cli.proofs.Making.{first_argument}
-use Rattle.dtman_cli.proofs.grammar.trace.Goals as goal
-
-pub returns : goal.returns
-returns c =
-    let first = first_argument c.named.result c.required.result c.arg-command.result _ _ c.named.ensures.shape c.named.ensures.globals c.required.ensures.local c.arg-command.ensures c.required.ensures.rule in
-    c.add_argument.ensures _ _ first c.required-2.ensures.rule

@@ -1,8 +1,0 @@
-use Rattle.std.proofs.Common.{codes, refl}
-use Rattle.dtman_cli.proofs.MetLemmas.{value}
-use Rattle.dtman_cli.proofs.reading.overlay.Goals as goal
-
-pub returns : goal.returns
-returns c =
-    let given = c.args.given.now in
-    (refl, value given (codes "BASE") c.in_ok-get_str.field-0.now c.in_ok-get_str.ensures, value given (codes "OVERLAY") c.in_ok-get_str-2.field-0.now c.in_ok-get_str-2.ensures, value given (codes "OUT") c.in_ok-get_str-3.field-0.now c.in_ok-get_str-3.ensures)

@@ -1,5 +1,0 @@
-use Rattle.std.proofs.Common.{refl}
-use Rattle.dtman_cli.proofs.reading.plan.Goals as goal
-
-pub returns : goal.returns
-returns c = (refl, c.in_ok-board.ensures, c.picture.ensures)

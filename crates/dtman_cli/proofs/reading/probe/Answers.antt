@@ -1,5 +1,0 @@
-use Rattle.std.proofs.Common.{refl}
-use Rattle.dtman_cli.proofs.reading.probe.Goals as goal
-
-pub returns : goal.returns
-returns c = (refl, c.in_ok-board.ensures, c.in_ok-workers.ensures, c.text.ensures)

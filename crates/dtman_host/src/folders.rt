@@ -1,0 +1,108 @@
+//! The files that a source takes in, looked for in the folders of the command line.
+ghost use Rattle.std.specs.Prelude.{◌≡◌};
+ghost use Rattle.dtman_host.specs.SourceFiles.{SomeFile, NoFile};
+ghost use Rattle.dtman_host.specs.Outcome.{IsOutcome};
+
+use crate::diagnosing::Given;
+use crate::outcome::{Outcome, compile_dtc};
+use crate::surroundings::Surroundings;
+use dt_text::include::{Files, Found, Reads, search};
+use dtman_engine::{DtcOptions, MAX_BLOB_LEN, read_all};
+use std::alloc::{AllocError, Global};
+use std::hash::RandomState;
+
+/// The surroundings, and the folders.
+struct Folders<'a, S> {
+    surroundings: &'a mut S,
+    folders: &'a [&'a str],
+    /// The paths of the files that were read.
+    found: &'a mut Vec<Vec<u8>>,
+    /// A file was there and couldn't be read to its end: no other is taken in its place.
+    is_broken: bool,
+}
+
+/// Compiles a source in dtc's language with what it takes in, beside it or from folders. The paths of the files that are read are added to
+/// those that were found.
+pub fn compile_in<S: Surroundings>(
+    alloc: Global,
+    hasher: RandomState,
+    surroundings: &mut S,
+    folders: &[&str],
+    found: &mut Vec<Vec<u8>>,
+    source: Given<'_>,
+    options: DtcOptions,
+) -> Outcome
+    ensures { IsOutcome SomeFile NoFile source.entry.name.now source.entry.bytes.now options result }
+{
+    let mut files = Folders {
+        surroundings,
+        folders,
+        found,
+        is_broken: false,
+    };
+    compile_dtc(
+        alloc,
+        hasher,
+        &mut files,
+        source.name,
+        source.bytes,
+        options,
+    )
+}
+
+impl<S: Surroundings> Files for Folders<'_, S> {
+    ghost use Rattle.dtman_host.specs.SourceFiles.{SomeFile, NoFile};
+
+    // Some folders lead to it: they stand in `self`, of which this knows nothing.
+    ghost finds = { SomeFile };
+
+    ghost lacks = { NoFile };
+
+    fn find(
+        &mut self,
+        alloc: Global,
+        beside: &[u8],
+        name: &[u8],
+    ) -> Result<Option<Found>, AllocError> {
+        let folders = self.folders;
+        search(alloc, self, folders, beside, name)
+    }
+}
+
+impl<S: Surroundings> Reads for Folders<'_, S> {
+    // Nothing is promised of a disk.
+    ghost reads = { λ path bytes. Unit {0} };
+
+    ghost lacks = { λ path. Unit {0} };
+
+    fn read(&mut self, alloc: Global, path: &str) -> Result<Option<Vec<u8>>, AllocError> {
+        if self.is_broken {
+            return Ok(None);
+        }
+        let Ok(mut file) = self.surroundings.open(path) else {
+            return Ok(None);
+        };
+        match read_all(alloc, &mut file, MAX_BLOB_LEN) {
+            Ok(bytes) => {
+                self.found.push(Vec::from_slice(alloc, path.as_bytes())?)?;
+                Ok(Some(bytes))
+            }
+            Err(fault) if fault.number == 0 => Err(AllocError),
+            Err(_) => {
+                self.is_broken = true;
+                Ok(None)
+            }
+        }
+    }
+}
+
+impl<S> Drop for Folders<'_, S> {
+    fn drop(self) {
+        let Folders {
+            surroundings: _,
+            folders: _,
+            found: _,
+            is_broken: _,
+        } = self;
+    }
+}

@@ -1,0 +1,13 @@
+//! Trees as sources in the layout that dtc prints (`-O dts`).
+//!
+//! Rooms: `layout`, a tree by itself; `source_layout`, one with the labels of the source that it was made of, its values as they were written
+//! (`markers`, `marked_value`).
+#![tactic(auto)]
+
+mod layout;
+mod marked_value;
+mod markers;
+mod source_layout;
+
+pub use layout::{Texts, layout_bytes};
+pub use source_layout::{Compiled, source_text};

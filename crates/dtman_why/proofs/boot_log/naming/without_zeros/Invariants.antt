@@ -1,5 +1,0 @@
-use Rattle.std.proofs.Common.{length}
-use Rattle.dtman_why.proofs.boot_log.naming.without_zeros.Given as goal
-
-abbrev pub decreases-loop-less : goal.decreases-loop-less
-decreases-loop-less l = length l.rest

@@ -1,0 +1,9 @@
+-- The argument's text is its first value.
+use Rattle.dtman_words.proofs.MetLemmas.{value, no_value}
+use Rattle.dtman_words.proofs.reading.text.Goals as goal
+
+pub returns-in-Some : goal.returns-in-Some
+returns-in-Some c = value c.args.given.now c.args.name.now c.in-Some.text.now c.in-Some.ensures
+
+pub returns-in-None : goal.returns-in-None
+returns-in-None c = no_value c.args.given.now c.args.name.now c.in-None.ensures
