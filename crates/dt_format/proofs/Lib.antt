@@ -1,0 +1,3 @@
+pub mod WhiteEnds
+pub mod Reaching
+pub mod Lowering

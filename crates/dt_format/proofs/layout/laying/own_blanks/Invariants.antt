@@ -1,0 +1,5 @@
+use Rattle.std.proofs.Common.{length}
+use Rattle.dt_format.proofs.layout.laying.own_blanks.Given as goal
+
+abbrev pub decreases-bytes : goal.decreases-bytes
+decreases-bytes l = length l.left

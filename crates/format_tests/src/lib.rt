@@ -1,0 +1,5 @@
+//! Rows of layouts.
+#![tactic(auto)]
+
+#[cfg(test)]
+mod rows;
