@@ -1,0 +1,14 @@
+pub mod Alias
+pub mod Entries
+pub mod Find
+pub mod Lines
+pub mod Mention
+pub mod Mentions
+pub mod Nodes
+pub mod Order
+pub mod Paths
+pub mod Question
+pub mod Rows
+pub mod ShapeView
+pub mod Shapes
+pub mod Who
