@@ -1,5 +1,9 @@
 //! Nodes and values of a blob, asked for and set by the words of a command line.
 
+ghost use Rattle.std.specs.Prelude.{◌≡◌, IfOk, IfErr, MatchResult};
+ghost use Rattle.dtman_blobs.specs.Asking.{IsChangeRefusal, IsNoPath, IsSaidIn, UnnamedBy};
+ghost use Rattle.dtman_blobs.specs.Saying.{kind_of, words_in};
+
 use crate::difference::Naming;
 use crate::saying::{SayError, are_numbers, said};
 use crate::showing::{ShowError, shown};
@@ -25,12 +29,24 @@ pub enum AskError<'a> {
 }
 
 impl From<AllocError> for AskError<'_> {
+    ghost use Rattle.std.specs.Prelude.{◌≡◌};
+    ghost use Rattle.dt_blob.specs.declared.error.BlobError.TheVariants.{NoMemory};
+    ghost use Rattle.dt_blob.specs.declared.query.error.QueryError.TheVariants.{Blob};
+    ghost use Rattle.dtman_blobs.specs.declared.asking.AskError.TheVariants.{Query};
+
+    ghost from_gives = { λ _ e. e ≡ Query (Blob NoMemory) };
+
     fn from(_error: AllocError) -> Self {
         AskError::Query(QueryError::Blob(BlobError::NoMemory))
     }
 }
 
 impl From<QueryError> for AskError<'_> {
+    ghost use Rattle.std.specs.Prelude.{◌≡◌};
+    ghost use Rattle.dtman_blobs.specs.declared.asking.AskError.TheVariants.{Query};
+
+    ghost from_gives = { λ error e. e ≡ Query error };
+
     fn from(error: QueryError) -> Self {
         AskError::Query(error)
     }
@@ -49,6 +65,10 @@ impl From<ReadError> for AskError<'_> {
 }
 
 impl From<ShowError> for AskError<'_> {
+    ghost use Rattle.dtman_blobs.specs.Asking.{FromShow};
+
+    ghost from_gives = { FromShow };
+
     fn from(error: ShowError) -> Self {
         match error {
             ShowError::NoMemory => AskError::Query(QueryError::Blob(BlobError::NoMemory)),
@@ -58,6 +78,10 @@ impl From<ShowError> for AskError<'_> {
 }
 
 impl<'a> From<SayError<'a>> for AskError<'a> {
+    ghost use Rattle.dtman_blobs.specs.Asking.{FromSay};
+
+    ghost from_gives = { FromSay };
+
     fn from(error: SayError<'a>) -> Self {
         match error {
             SayError::NoMemory => AskError::Query(QueryError::Blob(BlobError::NoMemory)),
@@ -67,7 +91,9 @@ impl<'a> From<SayError<'a>> for AskError<'a> {
 }
 
 // What is no path no node has.
-fn path_of(alloc: Global, path: &str) -> Result<Path, QueryError> {
+fn path_of(alloc: Global, path: &str) -> Result<Path, QueryError>
+    ensures { MatchResult result (λ it. it ≡ path.now) (IsNoPath path.now) }
+{
     match Path::parse(alloc, path.as_bytes()) {
         Ok(path) => Ok(path),
         Err(TreeError::NoMemory) => Err(QueryError::Blob(BlobError::NoMemory)),
@@ -145,7 +171,9 @@ pub fn list_text(alloc: Global, blob: &[u8], path: &str) -> Result<Vec<u8>, AskE
 }
 
 // Where nothing is said of them, words that are all numbers make cells, and others texts.
-fn kind_of(kind: ValueType, words: &[&str]) -> ValueType {
+fn kind_of(kind: ValueType, words: &[&str]) -> ValueType
+    ensures { result ≡ kind_of kind (words_in words.now) }
+{
     let notation = match kind.notation {
         Some(notation) => notation,
         None if are_numbers(words) => Notation::Signed,
@@ -157,7 +185,9 @@ fn kind_of(kind: ValueType, words: &[&str]) -> ValueType {
     }
 }
 
-fn name_of(alloc: Global, name: &str) -> Result<Name, AskError<'static>> {
+fn name_of(alloc: Global, name: &str) -> Result<Name, AskError<'static>>
+    ensures { MatchResult result (λ it. it ≡ name.now) (UnnamedBy name.now) }
+{
     match Name::new(alloc, name.as_bytes()) {
         Ok(name) => Ok(name),
         Err(TreeError::NoMemory) => Err(AskError::Query(QueryError::Blob(BlobError::NoMemory))),
@@ -174,7 +204,13 @@ pub fn set_bytes<'a>(
     name: &str,
     kind: ValueType,
     words: &[&'a str],
-) -> Result<Vec<u8>, AskError<'a>> {
+) -> Result<Vec<u8>, AskError<'a>>
+    // The blob of a tree that the bytes hold, with the value that the words say; all else is as it was.
+    ensures answer { IfOk result (λ changed.
+        IsSaidIn blob.now path.now name.now kind (words_in words.now) changed.items) }
+    // Each refusal has its reason in the words, the name, the path or the bytes.
+    ensures refused { IfErr result (IsChangeRefusal blob.now path.now name.now kind (words_in words.now)) }
+{
     let value = said(alloc, kind_of(kind, words), words)?;
     let name = name_of(alloc, name)?;
     let path = path_of(alloc, path)?;
