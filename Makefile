@@ -3,7 +3,7 @@
 .PHONY: build library demo test install uninstall dist deb clean toolchain
 
 PREFIX ?= /usr/local
-export PREFIX DESTDIR MAINTAINER TARGET
+export PREFIX DESTDIR MAINTAINER TARGET LIBFDT
 
 # Proves and builds the program, and leaves it at bin/dtman.
 build: toolchain
@@ -11,6 +11,7 @@ build: toolchain
 
 # Proves and builds the C libraries, and leaves them at bin/libdtman.a, bin/libdtman_arena.a and bin/libdtman_view.a; with
 # TARGET=aarch64-unknown-linux-gnu the two that want no malloc, for that processor, bin/libdtman_arena-aarch64.a and bin/libdtman_view-aarch64.a.
+# Where libfdt.h is installed, bin/libfdt has libfdt.a and libfdt.so.1: libfdt's own names over bin/libdtman_view.a (docs/libfdt.md).
 library: toolchain
 	@.ci/build library
 
@@ -27,6 +28,7 @@ test: toolchain
 	@.ci/gate
 
 # Puts what bin/ has, with man pages and completions, below DESTDIR/PREFIX; takes it away again. Only a proved program is installed or packed.
+# With LIBFDT=1 also bin/libfdt, into lib/dtman-libfdt, where no linker looks by itself.
 install: bin/dtman
 	@install/install.sh install
 

@@ -154,6 +154,24 @@ if [ ${#compilers[@]} -gt 0 ] && echo '#include <libfdt.h>' | "${compilers[0]}" 
 	make -s -C examples/c OUT="$work" CC="${compilers[0]}" libfdt
 	"$work/boot_libfdt" "${step[@]}" "$work/fdt.dtb" | diff "$work/said" - || fail "libfdt's step says something else"
 	same_board "$work/fdt.dtb" "libfdt's step"
+	# Its calls over the blobs of the examples, and the same over the library of its names.
+	blobs=(examples/*.dtb "$work/board.dtb" "$work/hat.dtb" "$work/overlaid.dtb")
+	for program in libfdt_calls libfdt_changes; do
+		"$work/$program" "${blobs[@]}" >"$work/by-libfdt"
+		"$work/own_$program" "${blobs[@]}" | diff "$work/by-libfdt" - || fail "examples/c/$program says something else over bin/libfdt/libfdt.a than over libfdt.a"
+	done
+	echo "library: bin/libfdt answers as libfdt does: $(awk '{ sum += $2 } END { print sum }' <("$work/own_libfdt_calls" "${blobs[@]}")) look-ups and $(wc -l <"$work/by-libfdt") changes"
+	if has fdtget "no program is run over bin/libfdt"; then
+		for blob in "${blobs[@]}"; do
+			for words in "-l $blob /" "-p $blob /" "-t s $blob / compatible" "-t x $blob / #address-cells" "$blob / none" "-l $blob /none"; do
+				for folder in "" "$PWD/bin/libfdt"; do
+					# shellcheck disable=SC2086
+					LD_LIBRARY_PATH=$folder fdtget $words >"$work/told${folder:+-own}" 2>&1 || echo "status $?" >>"$work/told${folder:+-own}"
+				done
+				diff "$work/told" "$work/told-own" || fail "fdtget $words says something else over bin/libfdt"
+			done
+		done
+	fi
 	header=$(sed -n 's/^# 1 "\(.*\/libfdt.h\)".*/\1/p' "$work/libfdt" | head -1)
 	while read -r call; do
 		grep -qF "\`$call\`" docs/libfdt.md || fail "docs/libfdt.md has no line for $call"

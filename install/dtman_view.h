@@ -29,7 +29,7 @@ extern "C" {
 #endif
 
 /* Which calls there are: it grows by one with each call more, and by a hundred where one changes. */
-#define DTMAN_VIEW_VERSION 215
+#define DTMAN_VIEW_VERSION 222
 
 /* No bytes. */
 #define DTMAN_VIEW_NONE ((const uint8_t *)"")
@@ -53,7 +53,7 @@ enum {
 
 struct dtman_view_told {
 	uint32_t status; /* one of the above */
-	uint32_t number; /* of the fault where refused, else 0 */
+	uint32_t number; /* of the fault where refused, of a token where one is told, else 0 */
 	size_t at;       /* the offset of what was found, or how many bytes are wanted where SHORT, else 0 */
 };
 
@@ -98,6 +98,13 @@ struct dtman_view_region {
  * 38 TooLarge. The view is then as it was.
  */
 struct dtman_view_told dtman_view_open(const void *blob, size_t length, struct dtman_view *view);
+
+/*
+ * The view of a blob by its header alone, for a blob that was opened before, or where a look-up is all that is wanted: a few words are read.
+ * Over a blob whose structure block is broken each call still returns, with some answer, and reads nothing outside. REFUSED by 30 to 33 or
+ * 38; the view is then as it was.
+ */
+struct dtman_view_told dtman_view_over(const void *blob, size_t length, struct dtman_view *view);
 
 /* The root. */
 struct dtman_view_told dtman_view_root(const struct dtman_view *view);
@@ -158,6 +165,21 @@ struct dtman_view_told dtman_view_property(const struct dtman_view *view, size_t
 struct dtman_view_told dtman_view_value(const struct dtman_view *view, size_t node, const void *name, size_t name_length,
 	struct dtman_view_part *part);
 
+/*
+ * The token at an offset of the structure block, whatever stands before it: `number` is 1 where a node begins, 2 where one ends, 3 of a
+ * property, 4 of a NOP, 9 at the end of the block; `at` is the offset behind it. BAD_OFFSET where no whole token stands.
+ */
+struct dtman_view_told dtman_view_token(const struct dtman_view *view, size_t at);
+
+/* So many bytes of the structure block from an offset on. NOTHING where they aren't there whole, and `part` is then as it was. */
+struct dtman_view_told dtman_view_raw(const struct dtman_view *view, size_t at, size_t count, struct dtman_view_part *part);
+
+/* The text that begins at an offset of the strings. NOTHING where the NUL at its end lacks, and `part` is then as it was. */
+struct dtman_view_told dtman_view_text_at(const struct dtman_view *view, size_t at, struct dtman_view_part *part);
+
+/* How many bytes the reserved memory has, as `at`, with the 16 at its end that are zero. NOTHING where it has no end. */
+struct dtman_view_told dtman_view_reserved_size(const struct dtman_view *view);
+
 /* The reserved memory by its place, from 0 on. NOTHING behind the last, and `into` is then as it was. */
 struct dtman_view_told dtman_view_reservation(const struct dtman_view *view, size_t index, struct dtman_view_reservation *into);
 
@@ -186,6 +208,13 @@ struct dtman_view_told dtman_view_double_cell(const void *value, size_t value_le
  * `part` is then as it was.
  */
 struct dtman_view_told dtman_view_string(const void *value, size_t value_length, size_t place, struct dtman_view_part *part);
+
+/*
+ * The string that a list of strings begins with, without the NUL at its end, and what the list has behind that NUL. NOTHING where the NUL
+ * lacks; `part` is then as it was.
+ */
+struct dtman_view_told dtman_view_first_string(const void *value, size_t value_length, struct dtman_view_part *part);
+struct dtman_view_told dtman_view_other_strings(const void *value, size_t value_length, struct dtman_view_part *part);
 
 /*
  * Changes. They are made in the caller's bytes, and nothing but what they name is another: a blob that holds a tree holds the changed tree.

@@ -9,6 +9,8 @@ root=${DESTDIR:-}
 zsh_folder=${ZSH_FOLDER:-share/zsh/site-functions}
 # So do its compilers, in a folder for each kind of machine.
 library_folder=${LIBRARY_FOLDER:-lib}
+# The library of libfdt's names stands in a folder of its own, and only where it is asked for: no linker finds it there by itself.
+libfdt_folder=$library_folder/dtman-libfdt
 
 # A line for each file that is installed: its mode, where it comes from, where it goes to below the prefix.
 listed() {
@@ -31,6 +33,11 @@ listed() {
 		echo 644 out/pages/dtman.pc "$library_folder/pkgconfig/dtman.pc"
 		echo 644 out/pages/dtman_arena.pc "$library_folder/pkgconfig/dtman_arena.pc"
 		for file in examples/c/Makefile examples/c/*.{c,h,dts,txt,md}; do echo 644 "$file" "share/doc/dtman/examples/c/${file##*/}"; done
+	fi
+	if [ -n "${LIBFDT:-}" ] && [ -e bin/libfdt/libfdt.so.1 ]; then
+		echo 644 bin/libfdt/libfdt.a "$libfdt_folder/libfdt.a"
+		echo 644 bin/libfdt/libfdt.so.1 "$libfdt_folder/libfdt.so.1"
+		echo 644 docs/libfdt.md share/doc/dtman/libfdt.md
 	fi
 	for file in README.md CHANGELOG.md docs/{commands,errors,promises,status}.md; do echo 644 "$file" "share/doc/dtman/${file##*/}"; done
 	for file in examples/*.{dts,dtb,drivers,plan,schedule}; do echo 644 "$file" "share/doc/dtman/examples/${file##*/}"; done
@@ -73,6 +80,7 @@ put() {
 	wants_proof
 	make_pages
 	[ -e bin/libdtman.a ] || echo "install: bin/libdtman.a isn't there, so the C library is left out" >&2
+	[ -z "${LIBFDT:-}" ] || [ -e bin/libfdt/libfdt.so.1 ] || echo "install: bin/libfdt isn't there, so the library of libfdt's names is left out" >&2
 	listed | while read -r mode source target; do install -D -m "$mode" "$source" "$root$prefix/$target"; done
 }
 
@@ -81,7 +89,7 @@ take_away() {
 	listed | while read -r _ _ target; do rm -f "$root$prefix/$target"; done
 	rm -f "$root$prefix"/share/man/{man1/dtman{,-*}.1,man3/libdtman.3,man5/dtman-plan.5}
 	rm -f "$root$prefix"/{"$library_folder"/libdtman{,_arena,_view}.a,include/dtman{,_arena,_view}.h,"$library_folder"/pkgconfig/dtman{,_arena}.pc}
-	rm -rf "$root$prefix/share/doc/dtman"
+	rm -rf "$root$prefix/share/doc/dtman" "$root$prefix/${libfdt_folder:?}"
 }
 
 # A tar ball that unpacks to bin/, lib/, include/ and share/, and its checksum. The same files give the same bytes.

@@ -21,6 +21,10 @@ nothing = record { status = 4; number = 0; at = 0 }
 abbrev pub refused : BlobError → ViewTold
 refused error = record { status = 2; number = number_of error; at = 0 }
 
+abbrev pub by_fault : Option BlobError → ViewTold
+by_fault None = done 0
+by_fault (Some error) = refused error
+
 -- no node, or no property, begins at the offset
 abbrev pub bad_offset : ViewTold
 bad_offset = record { status = 8; number = 0; at = 0 }

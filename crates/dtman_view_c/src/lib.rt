@@ -7,6 +7,7 @@ mod editing;
 mod finding;
 mod opening;
 mod parts;
+mod raw;
 mod regions;
 mod told;
 mod values;

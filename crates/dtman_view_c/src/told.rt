@@ -66,6 +66,13 @@ pub(crate) fn done(at: usize) -> ViewTold
     ended(DONE, 0, at)
 }
 
+/// A token's number and the offset behind it.
+pub(crate) fn numbered(number: u32, at: usize) -> ViewTold
+    ensures { result ≡ record { status = 0; number = number; at = at } }
+{
+    ended(DONE, number, at)
+}
+
 pub(crate) fn nothing() -> ViewTold
     ensures { result ≡ nothing }
 {
