@@ -12,25 +12,37 @@ import sys
 KINDS = "IRQCHIP_DECLARE", "IRQCHIP_MATCH", "TIMER_OF_DECLARE", "CLK_OF_DECLARE", "CLK_OF_DECLARE_DRIVER"
 # drivers/bus/vexpress-config.c makes the devices of these once its system controller is bound.
 BUSES = ("arm,vexpress,config-bus",)
-# All but IRQCHIP_MATCH have a name of their own before the string.
-DECLARATION = re.compile(r"\b(%s)\s*\(\s*(?:\w+\s*,\s*)?\"([^\"\s]+)\"" % "|".join(KINDS))
+# All but IRQCHIP_MATCH have a name of their own before the string, which may stand in a macro.
+DECLARATION = re.compile(r"\b(%s)\s*\(\s*(?:\w+\s*,\s*)?(?:\"([^\"\s]+)\"|([A-Z][A-Z0-9_]+)\s*,)" % "|".join(KINDS))
+MACRO = re.compile(r"^#define\s+([A-Z][A-Z0-9_]+)\s+\"([^\"\s]+)\"\s*$", re.MULTILINE)
 
 
-def sources(kernel):
-    """The C files of the drivers and of the architectures, in order."""
-    for top in "arch", "drivers":
+def texts(kernel, tops, ending):
+    """The files below these folders whose names end so, in order."""
+    for top in tops:
         for folder, folders, files in os.walk(os.path.join(kernel, top)):
             folders.sort()
-            yield from (os.path.join(folder, name) for name in sorted(files) if name.endswith(".c"))
+            for name in sorted(files):
+                path = os.path.join(folder, name)
+                if name.endswith(ending) and os.path.isfile(path):
+                    with open(path, encoding="utf-8", errors="replace") as source:
+                        yield source.read()
+
+
+def macros(kernel):
+    """The strings that headers of bindings and of drivers give names to."""
+    return dict(pair for text in texts(kernel, ("drivers", "include/dt-bindings"), ".h") for pair in MACRO.findall(text))
 
 
 def declarations(kernel):
     """The strings of each kind."""
     found = {kind: set() for kind in KINDS}
-    for path in sources(kernel):
-        with open(path, encoding="utf-8", errors="replace") as source:
-            for kind, string in DECLARATION.findall(source.read()):
-                found[kind].add(string)
+    named = macros(kernel)
+    for text in texts(kernel, ("arch", "drivers"), ".c"):
+        own = {**named, **dict(MACRO.findall(text))}
+        for kind, string, macro in DECLARATION.findall(text):
+            if string or macro in own:
+                found[kind].add(string or own[macro])
     return found
 
 
