@@ -46,7 +46,7 @@ bin/dtman:
 
 toolchain:
 	@command -v rt >/dev/null || { \
-	echo "rt isn't on the path: it is the command of the Rattle toolchain kit (rattle-kit-13b), which compiles and proves dtman." >&2; \
+	echo "rt isn't on the path: it is the command of the Rattle toolchain kit (rattle-kit-13f), which compiles and proves dtman." >&2; \
 	echo "The kit is one folder and needs no network: link its bin/rt into a folder of the path; then \`rt version\` tells the kit, \`rt doc\` its first page." >&2; \
 	exit 1; }
 

@@ -2,6 +2,7 @@
 //! messages in streams.
 #![tactic(auto)]
 
+#[cfg(test)]
 mod desk;
 #[cfg(test)]
 mod faults;
@@ -13,5 +14,3 @@ mod places;
 mod sessions;
 #[cfg(test)]
 mod sketches;
-
-pub use desk::{Desk, Step, steps};
