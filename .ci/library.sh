@@ -172,6 +172,18 @@ if [ ${#compilers[@]} -gt 0 ] && echo '#include <libfdt.h>' | "${compilers[0]}" 
 			done
 		done
 	fi
+	if has fdtput "no blob is changed by a program over bin/libfdt"; then
+		for words in "-t s BLOB / model another" "-t x BLOB / added 1 2 3" "-c BLOB /added" "-cp BLOB /one/two" "-d BLOB / model" "-r BLOB /chosen" "-d BLOB / none"; do
+			for folder in "" "$PWD/bin/libfdt"; do
+				put=$work/put${folder:+-own}
+				cp "$work/overlaid.dtb" "$put.dtb"
+				# shellcheck disable=SC2086
+				LD_LIBRARY_PATH=$folder fdtput ${words/BLOB/$put.dtb} >"$put" 2>&1 || echo "status $?" >>"$put"
+			done
+			diff "$work/put" "$work/put-own" || fail "fdtput $words says something else over bin/libfdt"
+			[ -z "$(bin/dtman diff "$work/put.dtb" "$work/put-own.dtb")" ] || fail "fdtput $words makes another board over bin/libfdt"
+		done
+	fi
 	header=$(sed -n 's/^# 1 "\(.*\/libfdt.h\)".*/\1/p' "$work/libfdt" | head -1)
 	while read -r call; do
 		grep -qF "\`$call\`" docs/libfdt.md || fail "docs/libfdt.md has no line for $call"

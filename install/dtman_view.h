@@ -29,7 +29,7 @@ extern "C" {
 #endif
 
 /* Which calls there are: it grows by one with each call more, and by a hundred where one changes. */
-#define DTMAN_VIEW_VERSION 222
+#define DTMAN_VIEW_VERSION 227
 
 /* No bytes. */
 #define DTMAN_VIEW_NONE ((const uint8_t *)"")
@@ -48,7 +48,8 @@ enum {
 	DTMAN_EDIT_ROOT = 14,      /* of changes alone: the root isn't deleted */
 	DTMAN_EDIT_EXISTS = 15,    /* of changes alone: the node has a child of the name */
 	DTMAN_EDIT_TOO_DEEP = 16,  /* of changes alone: 64 nodes are round the node, so it has no child */
-	DTMAN_EDIT_END_PAIR = 17   /* of changes alone: a size of zero, which ends the list of reserved memory for some readers */
+	DTMAN_EDIT_END_PAIR = 17,  /* of changes alone: a size of zero, which ends the list of reserved memory for some readers */
+	DTMAN_VIEW_OUT = 18        /* of dtman_view_step alone: a node ended that is in none of those that are counted */
 };
 
 struct dtman_view_told {
@@ -122,6 +123,13 @@ struct dtman_view_told dtman_view_next_sibling(const struct dtman_view *view, si
 struct dtman_view_told dtman_view_next_node(const struct dtman_view *view, size_t node);
 
 /*
+ * The same, with how deep the node stands in `deep`, where this one stands at `depth`: a child is one deeper. OUT where the node of depth 0
+ * ends before another begins; `at` is then the offset behind its end. NOTHING behind the last, with the depth that is left in `deep`. OUT and
+ * BAD_OFFSET leave it as it was.
+ */
+struct dtman_view_told dtman_view_step(const struct dtman_view *view, size_t node, uint32_t depth, size_t *deep);
+
+/*
  * The parent of a node: the structure block is read from its beginning up to the node. NOTHING of the root. BAD_OFFSET, also where a value
  * only looks like a node.
  */
@@ -135,6 +143,19 @@ struct dtman_view_told dtman_view_child(const struct dtman_view *view, size_t no
 
 /* The node at a path: `/`, or one or more times `/` and a whole name. NOTHING where there is none. BAD_PATH. */
 struct dtman_view_told dtman_view_find(const struct dtman_view *view, const void *path, size_t path_length);
+
+/*
+ * The first child whose name is this one or, where the name has no unit address, this one with a unit address behind it. NOTHING where it
+ * has no such child. BAD_OFFSET.
+ */
+struct dtman_view_told dtman_view_child_like(const struct dtman_view *view, size_t node, const void *name, size_t name_length);
+
+/*
+ * The node at a path as libfdt finds it: each name as dtman_view_child_like takes it, any number of slashes between two names, and in the
+ * place of the first slash an alias, whose text begins with a slash. NOTHING where there is no such node. BAD_PATH where the path begins
+ * with no slash and no alias.
+ */
+struct dtman_view_told dtman_view_find_like(const struct dtman_view *view, const void *path, size_t path_length);
 
 /*
  * The node at the path that an alias stands for: the property of this name in `/aliases`. NOTHING where there is no such alias or no node
@@ -273,6 +294,18 @@ struct dtman_view_told dtman_edit_reserve(void *buffer, size_t length, uint64_t 
  * blob are to be opened anew. NOTHING where there is no such reservation, UNORDERED, REFUSED.
  */
 struct dtman_view_told dtman_edit_unreserve(void *blob, size_t length, size_t index);
+
+/*
+ * Makes the header of the blob at the front of a buffer tell the buffer's size, so that what is behind the blob is its room; nothing else is
+ * another. Views over the buffer are to be opened anew. REFUSED by 30 to 33 or 38, or UNORDERED.
+ */
+struct dtman_view_told dtman_edit_grow(void *buffer, size_t length);
+
+/*
+ * Makes the header of a blob tell the size up to the end of its strings, so that no room is behind them; nothing else is another, and no
+ * block moves. Views over the blob are to be opened anew. REFUSED by 30 to 33 or 38, or UNORDERED.
+ */
+struct dtman_view_told dtman_edit_trim(void *blob, size_t length);
 
 #ifdef __cplusplus
 }

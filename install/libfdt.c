@@ -133,31 +133,20 @@ int fdt_get_mem_rsv(const void *fdt, int n, uint64_t *address, uint64_t *size)
 
 /* ---- walks */
 
-/* The next node from an offset on; where a depth is told it ends behind the node of depth 0, with that offset. */
-static int node_from(const struct dtman_view *view, int at, int *depth)
-{
-	struct dtman_view_told told;
-
-	for (told = dtman_view_token(view, at); !told.status; told = dtman_view_token(view, at)) {
-		if (told.number == FDT_BEGIN_NODE && depth)
-			++*depth;
-		if (told.number == FDT_BEGIN_NODE || told.number == FDT_END)
-			return told.number == FDT_END ? -FDT_ERR_NOTFOUND : at;
-		at = told.at;
-		if (told.number == FDT_END_NODE && depth && --*depth < 0)
-			return at;
-	}
-	return -FDT_ERR_BADSTRUCTURE;
-}
-
 int fdt_next_node(const void *fdt, int offset, int *depth)
 {
 	struct dtman_view view = DTMAN_NO_VIEW;
+	struct dtman_view_told told;
+	uint32_t from = depth && *depth > 0 ? *depth : 0;
+	size_t deep = from;
 	int error = offset < 0 ? view_of(fdt, &view) : view_at(fdt, offset, FDT_BEGIN_NODE, &view);
 
 	if (error)
 		return error;
-	return node_from(&view, offset < 0 ? 0 : (int)dtman_view_token(&view, offset).at, depth);
+	told = offset < 0 ? dtman_view_root(&view) : depth ? dtman_view_step(&view, offset, from, &deep) : dtman_view_next_node(&view, offset);
+	if (depth)
+		*depth += offset < 0 ? 1 : told.status == DTMAN_VIEW_OUT ? -1 - (int)from : (int)deep - (int)from;
+	return told.status == DTMAN_VIEW_OUT ? (int)told.at : walked(told);
 }
 
 int fdt_first_subnode(const void *fdt, int offset)
@@ -247,41 +236,6 @@ int fdt_supernode_atdepth_offset(const void *fdt, int nodeoffset, int supernoded
 
 /* ---- names and paths */
 
-/* Whether a name is the one that is asked for, or has a unit address where none is asked for. */
-static int is_like(struct dtman_view_part name, const char *asked, size_t length)
-{
-	if (name.length < length || memcmp(name.bytes, asked, length))
-		return 0;
-	return name.length == length || (name.bytes[length] == '@' && !memchr(asked, '@', length));
-}
-
-/* The first child like a name. */
-static int child_like(const struct dtman_view *view, int node, const char *name, size_t length)
-{
-	struct dtman_view_part own = DTMAN_NO_PART;
-	struct dtman_view_told told = dtman_view_first_child(view, node);
-
-	for (; !told.status; told = dtman_view_next_sibling(view, told.at)) {
-		dtman_view_name(view, told.at, &own);
-		if (is_like(own, name, length))
-			break;
-	}
-	return walked(told);
-}
-
-/* The node at names between slashes, from a node on. */
-static int below(const struct dtman_view *view, int node, const char *path, const char *end)
-{
-	while (node >= 0 && path < end) {
-		const char *slash = memchr(path, '/', end - path), *stop = slash ? slash : end;
-
-		if (stop > path)
-			node = child_like(view, node, path, stop - path);
-		path = slash ? slash + 1 : end;
-	}
-	return node;
-}
-
 int fdt_subnode_offset_namelen(const void *fdt, int parentoffset, const char *name, int namelen)
 {
 	struct dtman_view view = DTMAN_NO_VIEW;
@@ -291,7 +245,7 @@ int fdt_subnode_offset_namelen(const void *fdt, int parentoffset, const char *na
 		return error ? error : parentoffset;
 	if (!stands(&view, parentoffset, FDT_BEGIN_NODE))
 		return -FDT_ERR_BADOFFSET;
-	return child_like(&view, parentoffset, name, namelen);
+	return walked(dtman_view_child_like(&view, parentoffset, name, namelen));
 }
 
 int fdt_subnode_offset(const void *fdt, int parentoffset, const char *name)
@@ -299,29 +253,13 @@ int fdt_subnode_offset(const void *fdt, int parentoffset, const char *name)
 	return fdt_subnode_offset_namelen(fdt, parentoffset, name, strlen(name));
 }
 
-/* The node at an alias's text, and below it at the names from a place on. */
-static int by_alias(const void *fdt, const struct dtman_view *view, const char *path, const char *stop, const char *end)
-{
-	struct dtman_view_part text = DTMAN_NO_PART;
-	int length, aliases = fdt_path_offset(fdt, "/aliases");
-	const void *value = fdt_getprop_namelen(fdt, aliases, path, stop - path, &length);
-
-	if (!value || dtman_view_first_string(value, length, &text).status || !text.length || *text.bytes != '/')
-		return -FDT_ERR_BADPATH;
-	path = (const char *)text.bytes;
-	return below(view, below(view, 0, path, path + text.length), stop, end);
-}
-
 /* Of a path of no length, too, libfdt looks at the first byte. */
 int fdt_path_offset_namelen(const void *fdt, const char *path, int namelen)
 {
 	struct dtman_view view = DTMAN_NO_VIEW;
-	const char *end = path + namelen, *slash = memchr(path, '/', namelen);
 	int error = view_of(fdt, &view);
 
-	if (error)
-		return error;
-	return *path == '/' ? below(&view, 0, path, end) : by_alias(fdt, &view, path, slash ? slash : end, end);
+	return error ? error : offset_of(dtman_view_find_like(&view, path, namelen ? namelen : *path == '/'));
 }
 
 int fdt_path_offset(const void *fdt, const char *path)

@@ -102,6 +102,24 @@ int fdt_del_mem_rsv(void *fdt, int n)
 	return error ? error : offset_of(dtman_edit_unreserve(fdt, fdt_totalsize(fdt), n));
 }
 
+/* ---- room */
+
+/* No block is moved: where they aren't in order, the answer is FDT_ERR_BADLAYOUT. */
+int fdt_open_into(const void *fdt, void *buf, int bufsize)
+{
+	int error = fdt_move(fdt, buf, bufsize);
+
+	return error ? error : offset_of(dtman_edit_grow(buf, bufsize));
+}
+
+int fdt_pack(void *fdt)
+{
+	struct dtman_view view = DTMAN_NO_VIEW;
+	int error = view_of(fdt, &view);
+
+	return error ? error : offset_of(dtman_edit_trim(fdt, fdt_totalsize(fdt)));
+}
+
 /* ---- not served */
 
 #define IS_NOT_SERVED(call, ...) \
@@ -120,8 +138,6 @@ IS_NOT_SERVED(fdt_appendprop_addrrange, void *fdt, int parent, int nodeoffset, c
 IS_NOT_SERVED(fdt_nop_property, void *fdt, int nodeoffset, const char *name)
 IS_NOT_SERVED(fdt_nop_node, void *fdt, int nodeoffset)
 IS_NOT_SERVED(fdt_set_name, void *fdt, int nodeoffset, const char *name)
-IS_NOT_SERVED(fdt_open_into, const void *fdt, void *buf, int bufsize)
-IS_NOT_SERVED(fdt_pack, void *fdt)
 IS_NOT_SERVED(fdt_create_empty_tree, void *buf, int bufsize)
 IS_NOT_SERVED(fdt_create_with_flags, void *buf, int bufsize, uint32_t flags)
 IS_NOT_SERVED(fdt_create, void *buf, int bufsize)

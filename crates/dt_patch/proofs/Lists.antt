@@ -1,15 +1,15 @@
 -- A blob whose reserved memory has other pairs.
-use Rattle.std.proofs.Common.{◌≡◌, ℕ, ◌+◌, ◌-◌, ◌*◌, ◌%◌, ◌^◌, ◌<◌, ◌≤◌, max, Bool, true, false, not, ◌&&◌, ◌==◌, List, [], ◌∷◌, ◌++◌, length, take, drop, Option, Some, None, refl, ap, sym, subst, ◌∙◌, arith, append_assoc, length-append, length-drop}
+use Rattle.std.proofs.Common.{◌≡◌, inl, inr, ℕ, ◌+◌, ◌-◌, ◌*◌, ◌%◌, ◌^◌, ◌<◌, ◌≤◌, max, Bool, true, false, not, ◌&&◌, ◌==◌, List, [], ◌∷◌, ◌++◌, length, take, drop, Option, Some, None, refl, ap, sym, subst, ◌∙◌, arith, append_assoc, length-append, length-drop}
 use Rattle.std.specs.Prelude.{nat_le, nat_lt}
 use Rattle.std.specs.List.{list_all}
 use Rattle.std.proofs.Math.Bool.{and-false}
 use Rattle.std.specs.Option.{option_map_or}
 use Rattle.std.proofs.lemmas.List.{append-nil, drop_all, drop_at, length-take, take_at}
 use Rattle.dt_tree.specs.TreeData.{TreeData, AreLong, IsTree, is_reserve}
-use Rattle.dt_blob.specs.BigEndian.{double_word}
+use Rattle.dt_blob.specs.BigEndian.{double_word, word}
 use Rattle.dt_blob.specs.HeaderWords.{structure_of, word_at}
 use Rattle.dt_blob.specs.Holds.{Holds, Reserves, SpellsRoot}
-use Rattle.dt_blob.proofs.Sizes.{length-double_word}
+use Rattle.dt_blob.proofs.Sizes.{length-double_word, length-word}
 use Rattle.dt_blob.proofs.Tests.{both, equal, test_below, test_not_below}
 use Rattle.dt_patch.specs.View.Reserved.{reserved_size}
 use Rattle.dt_patch.specs.declared.error.PatchError.TheVariants.{EndPair, NoReservation, Unordered}
@@ -24,11 +24,11 @@ use Rattle.dt_patch.specs.Private.Places.{put_at}
 use Rattle.dt_patch.specs.Private.Reservations.{AreListed, IsList, IsPairGap, pair_bytes, pairs_wanted}
 use Rattle.dt_patch.specs.Private.Splicing.{IsRelaid, between, spliced}
 use Rattle.dt_patch.specs.Reserving.{pair_fault, unreserve_fault, wanted_to_reserve, with_reservation, without_reservation}
-use Rattle.dt_patch.proofs.Blocks.{Ordered, word_kept}
+use Rattle.dt_patch.proofs.Blocks.{Ordered, reserves_front, word_kept}
 use Rattle.dt_patch.proofs.Changed as blocks
 use Rattle.dt_patch.proofs.Laid.{Front, Shifted, aligned, bounded, front_of, held_shifted}
 use Rattle.dt_patch.proofs.Pairs.{all_append, all_before, length-pair, length-pairs, long_append, long_before, pairs_append, pairs_bytes, picked, reserves_spelled, spelled_front, zeros}
-use Rattle.dt_patch.proofs.Puts.{cut, put_more}
+use Rattle.dt_patch.proofs.Puts.{cut, drop_put, length-put, put_more, word_apart, word_put}
 
 -- from the pieces as they are written to the blocks in a row
 in_row : (h a n b s g t r : List ℕ) → (h ++ a) ++ (n ++ ((b ++ (s ++ (g ++ t))) ++ r)) ≡ (h ++ (a ++ (n ++ b))) ++ (s ++ (g ++ (t ++ r)))
@@ -114,6 +114,96 @@ module _ (bytes : List ℕ) (l : ReserveList) (il : IsList bytes l) where
       let ls = il.size in
       let room = bounded bytes il.planned.fault in
       omega (arith, second, third, strs, all, ls, room)
+
+  -- the header tells another size
+  abbrev pub sized : ℕ → Layout
+  sized size = record {
+    size = size;
+    structure_at = l.layout.structure_at;
+    structure_size = l.layout.structure_size;
+    strings_at = l.layout.strings_at;
+    strings_size = l.layout.strings_size;
+  }
+
+  pub held_sized : (size : ℕ) (final : List ℕ) → l.layout.strings_at + l.layout.strings_size ≤ size → size ≤ length bytes → IsRelaid bytes final (sized size) → (tree : TreeData) → Holds bytes tree → Holds final tree
+  held_sized size final used room relaid tree h =
+      let told : option_map_or (λ (n : ℕ). h.structure.0 == n) (Some o.size) (nat_le (word_at 8 bytes + h.structure.0) (word_at 4 bytes)) ≡ true =
+      ap (λ (k : Option ℕ). option_map_or (λ (n : ℕ). h.structure.0 == n) k (nat_le (word_at 8 bytes + h.structure.0) (word_at 4 bytes))) (sym o.told) ∙ h.structure.1 in
+      let same : h.structure.0 ≡ o.size = equal h.structure.0 o.size told in
+      let spelled : SpellsRoot strings tree.root block = subst (SpellsRoot strings tree.root) (ap (λ (n : ℕ). structure_of n bytes) same ∙ sym (blocks.block_is bytes il.view plan il.planned)) h.structure.2 in
+      let front = front_here tree h in
+      let first = o.first in
+      let second = o.second in
+      let third = o.third in
+      let fw = fr_wide in
+      let bw = block_wide in
+      let iw = idle_wide in
+      let sw = strings_wide in
+      let sz = size_is in
+      let a8 = il.planned.layout.structure_at in
+      let a12 = il.planned.layout.strings_at in
+      let a32 = il.planned.layout.strings_size in
+      let shifted : Shifted bytes bytes final fr block idle strings rest (sized size) = record {
+        new = whole;
+        relaid = relaid;
+        header = λ place k. refl;
+        long = refl;
+        front = omega (arith, first, second, fw);
+        aligned = ap (λ (n : ℕ). n % 4 == 0) fw ∙ (aligned bytes il.planned.fault).structure;
+        inside = omega (arith, second, fw);
+        structure_at = omega (arith, fw, a8);
+        structure_size = omega (arith, bw, sz);
+        strings_at = omega (arith, fw, bw, iw, a12, third);
+        strings_size = omega (arith, sw, a32);
+        size = used;
+        whole = room;
+      } in
+      held_shifted bytes bytes final fr block idle strings rest (sized size) shifted il.planned.reserved o tree tree h refl h.limits spelled
+      (λ x. reserves_front tree.reserves (drop (word_at 16 bytes) fr) front.behind x front.enough front.pairs)
+
+  -- the word of the size, put in its place
+  pub resized : (size : ℕ) (final : List ℕ) → size < 2 ^ 32 → final ≡ put_at bytes 4 (word size) → IsRelaid bytes final (sized size)
+  resized size final small is =
+      let wide : 40 ≤ length bytes = (let a = o.first in let b = o.second in let c = o.third in let d = o.strings in let e = o.whole in omega (arith, a, b, c, d, e)) in
+      let four : 4 ≤ length bytes = omega (arith, wide) in
+      let same : (j : ℕ) → 8 ≤ j → word_at j final ≡ word_at j bytes = λ j k. ap (word_at j) is ∙ word_apart bytes j 4 size (inr k) four in
+      record {
+        behind = ap (drop 40) is ∙ drop_put bytes 4 40 (word size) (omega (arith, length-word size)) four;
+        long = ap length is ∙ length-put bytes 4 (word size) (omega (arith, wide, length-word size));
+        layout = record {
+          size = sym (ap (word_at 4) is ∙ word_put bytes 4 size four small);
+          structure_at = il.planned.layout.structure_at ∙ sym (same 8 (omega arith));
+          strings_at = il.planned.layout.strings_at ∙ sym (same 12 (omega arith));
+          strings_size = il.planned.layout.strings_size ∙ sym (same 32 (omega arith));
+          structure_size = il.planned.layout.structure_size ∙ sym (same 36 (omega arith));
+        };
+        magic = ap (word_at 0) is ∙ word_apart bytes 0 4 size (inl (omega arith)) four;
+        reserves_at = same 16 (omega arith);
+        version = same 20 (omega arith);
+        compatible = same 24 (omega arith);
+        boot_cpu = same 28 (omega arith);
+      }
+
+  -- the strings end inside the blob, and the blob inside the buffer
+  pub record Ends : Type 0 where
+    pub strings : l.layout.strings_at + l.layout.strings_size ≤ length bytes
+    pub room : length bytes ≤ 2 ^ 28
+    pub header : 40 ≤ length bytes
+
+  pub ends : Ends
+  ends =
+      let a = o.strings in
+      let b = o.whole in
+      let c = o.first in
+      let d = o.second in
+      let e = o.third in
+      let a12 = il.planned.layout.strings_at in
+      let a32 = il.planned.layout.strings_size in
+      record {
+        strings = omega (arith, a, b, a12, a32);
+        room = bounded bytes il.planned.fault;
+        header = omega (arith, a, b, c, d, e);
+      }
 
   module _ (part : Span) (new : List ℕ) (gap : Gap) (g : IsPairGap l part (length new) (length bytes) gap) (final : List ℕ) (relaid : IsRelaid (spliced bytes gap.at gap.next gap.end new []) final gap.layout) (ls : AreListed l part (length new) (length bytes))
       (a old b : List ℕ) (list_is : drop (word_at 16 bytes) fr ≡ a ++ (old ++ b)) (a_wide : length a ≡ part.at) (old_wide : length old ≡ part.next - part.at) (even : (length fr + length new - length old) % 4 ≡ length fr % 4) where

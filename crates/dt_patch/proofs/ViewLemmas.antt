@@ -1,3 +1,4 @@
+pub mod Alikes
 pub mod Beginnings
 pub mod CellCounts
 pub mod Descents
@@ -12,4 +13,5 @@ pub mod Pairs
 pub mod Reaches
 pub mod Shapes
 pub mod Spellings
+pub mod Steps
 pub mod Walks

@@ -4,4 +4,5 @@ pub mod Private
 pub mod Removing
 pub mod Reserving
 pub mod Setting
+pub mod Sizing
 pub mod View

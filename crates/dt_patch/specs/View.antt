@@ -1,4 +1,5 @@
 pub mod Aliases
+pub mod Alike
 pub mod Cells
 pub mod Order
 pub mod Parents
@@ -10,3 +11,4 @@ pub mod Regions
 pub mod Reserved
 pub mod Shows
 pub mod Standing
+pub mod Stepping

@@ -13,6 +13,7 @@ mod planning;
 mod removing;
 mod reserving;
 mod setting;
+mod sizing;
 mod splicing;
 pub mod view;
 
@@ -21,3 +22,4 @@ pub use error::PatchError;
 pub use removing::{delete_node, delete_property};
 pub use reserving::{add_reservation, delete_reservation};
 pub use setting::{set, set_in_place};
+pub use sizing::{grow, trim};

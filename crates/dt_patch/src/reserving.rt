@@ -26,7 +26,7 @@ pub(crate) struct ReserveList {
 }
 
 /// Where the reserved memory stands.
-fn list_of(blob: &[u8]) -> Result<ReserveList, PatchError>
+pub(crate) fn list_of(blob: &[u8]) -> Result<ReserveList, PatchError>
     ensures list { IfOk result (λ l. IsList blob.now l) }
     ensures fault { (tree : TreeData) → Holds blob.now tree
         → MatchResult result (λ _. is_ordered blob.now (reserved_size tree.reserves) ≡ true)

@@ -1,5 +1,6 @@
 //! A blob read in place: over the caller's bytes, without memory of its own and without recursion.
 
+mod alike;
 mod cells;
 mod checking;
 mod error;
@@ -13,6 +14,7 @@ mod regions;
 mod reserves;
 mod spans;
 mod stages;
+mod stepping;
 mod tokens;
 mod view;
 
@@ -22,4 +24,5 @@ pub use laws::{first_of_siblings, held_is_shown};
 pub use nodes::NodeOffset;
 pub use properties::{PlacedProperty, PropertyOffset, ViewProperty};
 pub use regions::{RegCells, Region, region_at};
+pub use stepping::Step;
 pub use view::View;

@@ -11,6 +11,8 @@ mod changes;
 #[cfg(test)]
 mod growing;
 #[cfg(test)]
+mod likes;
+#[cfg(test)]
 mod merges;
 #[cfg(test)]
 mod patches;
@@ -18,6 +20,8 @@ mod patches;
 mod removals;
 #[cfg(test)]
 mod reservations;
+#[cfg(test)]
+mod sizes;
 #[cfg(test)]
 mod trees;
 #[cfg(test)]

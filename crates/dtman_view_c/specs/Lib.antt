@@ -1,3 +1,4 @@
 pub mod Parts
 pub mod Raw
+pub mod Steps
 pub mod Told

@@ -25,6 +25,10 @@ abbrev pub by_fault : Option BlobError → ViewTold
 by_fault None = done 0
 by_fault (Some error) = refused error
 
+-- the walk leaves the node that is round it, up to the offset
+abbrev pub out : ℕ → ViewTold
+out at = record { status = 18; number = 0; at = at }
+
 -- no node, or no property, begins at the offset
 abbrev pub bad_offset : ViewTold
 bad_offset = record { status = 8; number = 0; at = 0 }

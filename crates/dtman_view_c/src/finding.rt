@@ -6,6 +6,7 @@ ghost use Rattle.dt_tree.specs.PathMap.{child_named, node_at};
 ghost use Rattle.dt_tree.specs.TreeData.{TreeData};
 ghost use Rattle.dt_patch.specs.View.Order.{StandsIn, from_first, has_phandle, in_order, is_compatible, TellsNext};
 ghost use Rattle.dt_patch.specs.View.Aliases.{TellsAlias, alias_in};
+ghost use Rattle.dt_patch.specs.View.Alike.{TellsLike, child_like};
 ghost use Rattle.dt_patch.specs.View.Places.{TellsPlace};
 ghost use Rattle.dt_patch.specs.View.Shows.{Views};
 ghost use Rattle.dt_patch.specs.View.Standing.{HasNoNode, StandsAt};
@@ -59,4 +60,23 @@ pub extern "C" fn dtman_view_next_compatible(view: &View<'_>, node: usize, text:
         → TellsNext view.now answer (from_first (is_compatible text.now) later)) result }
 {
     node_told(view.next_compatible(NodeOffset { at: node }, text))
+}
+
+/// The first child whose name is this one or, where no unit address is asked for, has one.
+#[unsafe(no_mangle)]
+pub extern "C" fn dtman_view_child_like(view: &View<'_>, node: usize, name: &[u8]) -> ViewTold
+    ensures tells { TellsNode (λ answer. (d : NodeData) → StandsAt view.now node d
+        → TellsPlace view.now answer (child_like d.children name.now)) result }
+    ensures refused { HasNoNode view.now node → result ≡ bad_offset }
+{
+    node_told(view.child_like(NodeOffset { at: node }, name))
+}
+
+/// The node at a path as libfdt finds it.
+#[unsafe(no_mangle)]
+pub extern "C" fn dtman_view_find_like(view: &View<'_>, path: &[u8]) -> ViewTold
+    ensures { TellsNode (λ answer. (tree : TreeData) → Views view.now tree
+        → TellsLike view.now tree.root path.now answer) result }
+{
+    node_told(view.find_like(path))
 }

@@ -9,6 +9,8 @@ mod opening;
 mod parts;
 mod raw;
 mod regions;
+mod sizing;
+mod stepping;
 mod told;
 mod values;
 mod walking;

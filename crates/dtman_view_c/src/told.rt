@@ -1,6 +1,6 @@
 //! How a call ended.
 ghost use Rattle.std.specs.Prelude.{◌≡◌};
-ghost use Rattle.dtman_view_c.specs.Told.{done, nothing, node_told, property_told, refused, unchanged};
+ghost use Rattle.dtman_view_c.specs.Told.{done, nothing, node_told, out, property_told, refused, unchanged};
 
 use dt_blob::BlobError;
 use dt_patch::PatchError;
@@ -43,6 +43,9 @@ const TOO_DEEP: u32 = 16;
 /// The address and the size would end the list.
 const END_PAIR: u32 = 17;
 
+/// The walk leaves the node that is round it.
+const OUT: u32 = 18;
+
 /// How a call of a view ended, and the offset or the number that it tells.
 #[repr(C)]
 #[derive(Clone, Copy)]
@@ -71,6 +74,12 @@ pub(crate) fn numbered(number: u32, at: usize) -> ViewTold
     ensures { result ≡ record { status = 0; number = number; at = at } }
 {
     ended(DONE, number, at)
+}
+
+pub(crate) fn out(at: usize) -> ViewTold
+    ensures { result ≡ out at }
+{
+    ended(OUT, 0, at)
 }
 
 pub(crate) fn nothing() -> ViewTold

@@ -103,8 +103,8 @@ impl<'a> View<'a> {
         }
     }
 
-    // The text that `/aliases` has under a name.
-    fn alias_text(&self, name: &[u8]) -> Result<Option<&'a [u8]>, ViewError>
+    /// The text that `/aliases` has under a name.
+    pub(crate) fn alias_text(&self, name: &[u8]) -> Result<Option<&'a [u8]>, ViewError>
         ensures { (tree : TreeData) → Views self.now tree
             → IsOkAnd result (λ path. option_copied path ≡ alias_in tree.root name.now) }
     {

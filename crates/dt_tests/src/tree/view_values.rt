@@ -6,7 +6,7 @@ use std::process::Abort;
 
 /// `/ { #size-cells = <2>; aliases { a = "/c"; b = "c"; d = "/d"; }; c { reg = <0 1 0 2 0 3 0 4>; }; };`. By hand: the root's property
 /// stands at 8, aliases at 24, c at 88 with its reg at 96.
-const ALIASES: &[u32] = &[
+pub(super) const ALIASES: &[u32] = &[
     1,
     0,
     3,
@@ -47,7 +47,7 @@ const ALIASES: &[u32] = &[
     9,
 ];
 
-const ALIAS_NAMES: &[u8] = b"#size-cells\0a\0b\0d\0reg\0";
+pub(super) const ALIAS_NAMES: &[u8] = b"#size-cells\0a\0b\0d\0reg\0";
 
 fn aliases_are_found(rt: &impl Abort, view: &View<'_>) {
     assert_eq!(rt; place(rt, view.alias(b"a")), place(rt, view.find(b"/c")));

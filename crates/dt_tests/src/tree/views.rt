@@ -10,7 +10,7 @@ use std::process::Abort;
 
 /// `/ { c { phandle = <7>; compatible = "v,b", "v,c"; e { }; }; d { phandle = <8>; }; };`, with a NOP before `d`. Offsets by hand:
 /// the root stands at 0, c at 8 with its properties at 16 and 32, e at 52, a NOP at 68, d at 72 with its property at 80.
-const TWO_CHILDREN: &[u32] = &[
+pub(super) const TWO_CHILDREN: &[u32] = &[
     1,
     0,
     1,
@@ -40,7 +40,7 @@ const TWO_CHILDREN: &[u32] = &[
     9,
 ];
 
-const NAMES: &[u8] = b"phandle\0compatible\0";
+pub(super) const NAMES: &[u8] = b"phandle\0compatible\0";
 
 pub(super) fn node(at: usize) -> NodeOffset {
     NodeOffset { at }
