@@ -1,5 +1,6 @@
 pub mod BindingsLemmas
 pub mod LawfulLinks
+pub mod MakingLemmas
 mod MentionsLemmas
 mod NoCycle
 mod RefusalLemmas

@@ -24,7 +24,7 @@ use Rattle.bus_plan.proofs.ReachLemmas.InLemmas.{some_or, or_left, or_right, in_
 use Rattle.bus_plan.proofs.ReachLemmas.TakesLemmas.{takes_on, takes_supplier, known_consumer}
 use Rattle.bus_links.specs.Laws.{is_chain, NoCycleIsLeft}
 use Rattle.bus_links.specs.LinkPlan.{is_counted, is_waited_for, suppliers_by, links_at, parent_at, planned_by}
-use Rattle.bus_links.specs.Links.{LinkData, supplier_of, link_by, links_by, flags, is_bus_for, bus_above, bus_link, links_of, node_of, links_from, tree_links, tree_parents}
+use Rattle.bus_links.specs.Links.{LinkData, linux_devices, supplier_of, link_by, links_by, flags, is_bus_for, bus_above, bus_link, links_of, node_of, links_from, tree_links, tree_parents}
 
 -- ---- suppliers, each once
 filter_keeps : (p : ℕ → Bool) (ds : List ℕ) (s : ℕ) → is_in (filter p ds) s ≡ true → is_in ds s ≡ true
@@ -85,8 +85,8 @@ module _ (nodes : List LinkNode) (devices : List TreeDevice) (buses : List Bool)
   shaped_mentions : (own : ℕ) (ms : List MentionData) → All (IsShaped own) (links_by nodes devices own ms)
   shaped_mentions own [] = All-nil (IsShaped own)
   shaped_mentions own (m ∷ ms) =
-      All-append (IsShaped own) (map (link_by own m) (option_to_list (supplier_of nodes devices own m.node))) (links_by nodes devices own ms)
-      (of_option (IsShaped own) (link_by own m) (supplier_of nodes devices own m.node) (λ s is. (refl, λ e. absurd (let bad : false ≡ true = e in cc bad))))
+      All-append (IsShaped own) (map (link_by nodes own m) (option_to_list (supplier_of nodes devices own m.node))) (links_by nodes devices own ms)
+      (of_option (IsShaped own) (link_by nodes own m) (supplier_of nodes devices own m.node) (λ s is. (refl, λ e. absurd (let bad : false ≡ true = e in cc bad))))
       (shaped_mentions own ms)
 
   bus_before : (own node s : ℕ) → bus_above nodes buses own node ≡ Some s → s < own
@@ -240,8 +240,8 @@ no_cycle = λ root set strict components are d between chain.
     let parents : List (Option ℕ) = tree_parents root in
     let shaped : (k : ℕ) → All (IsShaped k) (links_at links k) =
     λ k. let same : 0 + k ≡ k = omega arith in
-    subst (λ (p : ℕ). All (IsShaped p) (links_at links k)) same (shaped_all (tree_nodes root) (tree_devices root) (flags set.buses (tree_devices root)) strict (device_places (tree_nodes root)) (tree_devices root) 0 k) in
-    let known = begins early components set.drivers parents links shaped (tree_devices root) are d d between chain in
-    let way = along early components set.drivers parents links shaped (tree_devices root) are d d between known chain in
+    subst (λ (p : ℕ). All (IsShaped p) (links_at links k)) same (shaped_all (tree_nodes root) (linux_devices root set) (flags set.buses (tree_devices root)) strict (device_places (tree_nodes root)) (linux_devices root set) 0 k) in
+    let known = begins early components set.drivers parents links shaped (linux_devices root set) are d d between chain in
+    let way = along early components set.drivers parents links shaped (linux_devices root set) are d d between known chain in
     let low : d < d = way.1 way.0 in
     absurd (omega arith)

@@ -12,6 +12,8 @@ mod walk;
 
 pub use binding::{Binding, Listing, Strictness};
 pub use endpoints::Ends;
+pub use interrupts::most_steps;
 pub use link_node::LinkNode;
 pub use mentions::{Fault, Found, Mention};
+pub use naming::bytes;
 pub use nodes::Nodes;

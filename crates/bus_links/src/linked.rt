@@ -20,14 +20,24 @@ pub enum Standing {
     Relaxed,
 }
 
+/// The plan of a tree, the one that is left behind the timeout, and the components that both go by.
+#[derive(Drop)]
+pub(crate) struct Plans {
+    pub plan: Plan,
+    pub late: Plan,
+    pub components: Vec<usize>,
+}
+
 /// The plan of a tree by the links of Linux, and what it was made of.
 #[derive(Drop)]
 pub struct Linked<'t> {
     plan: Plan,
+    late: Plan,
     links: Vec<DeviceLinks<'t>>,
     warnings: Vec<Warning<'t>>,
     early: Vec<bool>,
     components: Vec<usize>,
+    absent: Vec<bool>,
 }
 
 impl<'t> Model for Linked<'t> {
@@ -37,6 +47,7 @@ impl<'t> Model for Linked<'t> {
 
     ghost view = { λ l. record {
       plan = l.plan;
+      late = l.late;
       links = l.links.items;
       warnings = l.warnings.items;
       early = l.early.items;
@@ -51,26 +62,29 @@ impl<'t> Linked<'t> {
 
     /// The result of these parts.
     pub(crate) fn new(
-        plan: Plan,
+        plans: Plans,
         links: Vec<DeviceLinks<'t>>,
         warnings: Vec<Warning<'t>>,
         early: Vec<bool>,
-        components: Vec<usize>,
+        absent: Vec<bool>,
     ) -> Self
         ensures { result ≡ record {
-          plan = plan;
+          plan = plans.plan;
+          late = plans.late;
           links = links.entry.items;
           warnings = warnings.entry.items;
           early = early.items;
-          components = components.items;
+          components = plans.components.items;
         } }
     {
         Self {
-            plan,
+            plan: plans.plan,
+            late: plans.late,
             links,
             warnings,
             early,
-            components,
+            components: plans.components,
+            absent,
         }
     }
 
@@ -79,6 +93,18 @@ impl<'t> Linked<'t> {
         ensures { result.now ≡ self.now.plan }
     {
         &self.plan
+    }
+
+    /// The plan that is left when `deferred_probe_timeout` ends.
+    pub fn late(&self) -> &Plan
+        ensures { result.now ≡ self.now.late }
+    {
+        &self.late
+    }
+
+    /// Whether Linux makes no device of a node that is okay. (Nothing is claimed of the answer.)
+    pub fn is_absent(&self, device: Device) -> bool {
+        flag_at(self.absent.as_slice(), device.index())
     }
 
     /// The plan alone.

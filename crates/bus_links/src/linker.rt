@@ -26,11 +26,14 @@ pub struct Linker<'l, 't> {
 }
 
 impl<'l, 't> Linker<'l, 't> {
-    // The device at a place, if that isn't the consumer.
+    // The device at a place, if it may be used and isn't the consumer.
     fn supplier_at(&self, own: usize, place: usize) -> Option<usize>
         ensures { result ≡ supplier_at self.now.devices.now own place }
     {
         if place >= self.devices.len() || place == own {
+            return None;
+        }
+        if !self.devices[place].available() {
             return None;
         }
         Some(place)
@@ -56,14 +59,15 @@ impl<'l, 't> Linker<'l, 't> {
         own: usize,
         mention: &Mention<'t>,
     ) -> Result<(), AllocError>
-        ensures { OnOk result (links.new.items ≡ links.old.items ++ map (link_by own mention.now)
+        ensures { OnOk result (links.new.items ≡ links.old.items ++ map (link_by self.now.nodes.now own mention.now)
             (option_to_list (supplier_of self.now.nodes.now self.now.devices.now own mention.now.node))) }
     {
         let Some(supplier) = self.supplier_of(own, mention.node) else {
             return Ok(());
         };
         let (own, supplier) = (Device::new(own), Device::new(supplier));
-        links.push(Link::new(own, supplier, mention.property, mention.entry))?;
+        let is_part = !self.nodes.is_compatible(mention.node);
+        links.push(Link::new(own, supplier, mention.property, mention.entry, is_part))?;
         Ok(())
     }
 

@@ -1,5 +1,6 @@
 ghost use Rattle.std.specs.Prelude.{◌≡◌, false};
 ghost use Rattle.bus_links.specs.Links.{bus_link};
+ghost use Rattle.bus_links.specs.LinkPlan.{with_supplier};
 
 use bus_plan::Device;
 use std::marker::Model;
@@ -13,6 +14,7 @@ pub struct Link<'t> {
     property: &'t [u8],
     entry: usize,
     is_bus: bool,
+    is_part: bool,
 }
 
 impl<'t> Model for Link<'t> {
@@ -20,18 +22,25 @@ impl<'t> Model for Link<'t> {
 
     ghost Value = { LinkData };
 
-    ghost view = { λ l. record { consumer = l.consumer; supplier = l.supplier; property = l.property.now; entry = l.entry; is_bus = l.is_bus } };
+    ghost view = { λ l. record { consumer = l.consumer; supplier = l.supplier; property = l.property.now; entry = l.entry; is_bus = l.is_bus; is_part = l.is_part } };
 }
 
 impl<'t> Link<'t> {
-    /// That which an entry of a property makes.
-    pub fn new(consumer: Device, supplier: Device, property: &'t [u8], entry: usize) -> Self
+    /// That which an entry of a property makes, of the supplier or of a part of it.
+    pub fn new(
+        consumer: Device,
+        supplier: Device,
+        property: &'t [u8],
+        entry: usize,
+        is_part: bool,
+    ) -> Self
         ensures { result ≡ record {
           consumer = consumer;
           supplier = supplier;
           property = property.now;
           entry = entry;
           is_bus = false;
+          is_part = is_part;
         } }
     {
         Self {
@@ -40,6 +49,7 @@ impl<'t> Link<'t> {
             property,
             entry,
             is_bus: false,
+            is_part,
         }
     }
 
@@ -53,6 +63,7 @@ impl<'t> Link<'t> {
             property: &[],
             entry: 0,
             is_bus: true,
+            is_part: false,
         }
     }
 
@@ -82,6 +93,27 @@ impl<'t> Link<'t> {
         ensures { result ≡ self.now.entry }
     {
         self.entry
+    }
+
+    /// Whether the entry names a part of the supplier: a node below it that is no device.
+    pub fn is_part(&self) -> bool
+        ensures { result ≡ self.now.is_part }
+    {
+        self.is_part
+    }
+
+    /// The same link to another supplier.
+    pub fn with_supplier(&self, supplier: Device) -> Self
+        ensures { result ≡ with_supplier self.now supplier }
+    {
+        Self {
+            consumer: self.consumer,
+            supplier,
+            property: self.property,
+            entry: self.entry,
+            is_bus: self.is_bus,
+            is_part: self.is_part,
+        }
     }
 
     /// Whether it is the link to the bus above, which no property makes.

@@ -114,8 +114,8 @@ fn links_at<'l, 't>(links: &'l [DeviceLinks<'t>], own: usize) -> &'l [Link<'t>]
     links[own].as_slice()
 }
 
-// The parent of the device at a place.
-fn parent_at(parents: &[Option<usize>], own: usize) -> Option<usize>
+/// The parent of the device at a place.
+pub fn parent_at(parents: &[Option<usize>], own: usize) -> Option<usize>
     ensures { result ≡ parent_at parents.now own }
 {
     if own >= parents.len() {

@@ -12,3 +12,5 @@ mod many;
 mod pictures;
 #[cfg(test)]
 mod rows;
+#[cfg(test)]
+mod rules;

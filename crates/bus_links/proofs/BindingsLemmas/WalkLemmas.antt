@@ -7,11 +7,11 @@ use Rattle.bus_links.specs.Bindings.LinkNodes.{Above, Met, here, with_node, with
 use Rattle.bus_links.specs.Bindings.Private.Walk.{with_tree}
 
 -- the node itself, and then those below it
-pub walk-begin : (above : Above) (met : Met) (b : NodeData) (below : Above) (after : Met) (f : Siblings) → below ≡ here above met b.properties → after ≡ with_node above met b.properties
+pub walk-begin : (above : Above) (met : Met) (b : NodeData) (below : Above) (after : Met) (f : Siblings) → below ≡ here above met b.properties → after ≡ with_node above met b.name b.properties
     → f ≡ b.children → with_siblings below after f ≡ with_tree above met b
 walk-begin above met b below after f is met_it all =
     ap (λ (a : Above). with_siblings a after f) is ∙ ap (λ (m : Met). with_siblings (here above met b.properties) m f) met_it
-    ∙ ap (λ (g : Siblings). with_siblings (here above met b.properties) (with_node above met b.properties) g) all
+    ∙ ap (λ (g : Siblings). with_siblings (here above met b.properties) (with_node above met b.name b.properties) g) all
 
 -- one of several nodes
 pub walk-next : (above : Above) (before after whole : Met) (f rest : Siblings) (b : NodeData) → f ≡ more b.name b.properties b.children rest → after ≡ with_tree above before b

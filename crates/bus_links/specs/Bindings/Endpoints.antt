@@ -1,12 +1,12 @@
 -- The ends of a graph's edges (Documentation/devicetree/bindings/graph.txt). An endpoint stands below the device that it belongs to, and
 -- its `remote-endpoint` makes that device wait for the one of the other end (drivers/of/property.c of Linux 6.1:
 -- `parse_remote_endpoint`, whose binding is `node_not_dev`, and `of_graph_get_port_parent`).
-use Rattle.std.specs.Prelude.{ℕ, ◌+◌, Bool, false, ◌&&◌, ◌==◌, codes, if◌then◌else◌, List, [], ◌∷◌, ◌++◌, take, is_some}
+use Rattle.std.specs.Prelude.{ℕ, ◌+◌, Bool, false, ◌&&◌, ◌||◌, ◌==◌, codes, if◌then◌else◌, List, [], ◌∷◌, ◌++◌, take, is_some}
 use Rattle.std.specs.Option.{option_map_or}
 use Rattle.dt_tree.specs.Cell.{cell_in}
 use Rattle.dt_tree.specs.PathMap.{value_of}
 use Rattle.bus_links.specs.Bindings.Interrupts.{bytes_at}
-use Rattle.bus_links.specs.Bindings.LinkNodes.{LinkNode, node_at, place_with}
+use Rattle.bus_links.specs.Bindings.LinkNodes.{LinkNode, node_at, is_named, place_with}
 use Rattle.bus_links.specs.Bindings.Mentions.{FoundData, nothing, and_then, mentioned, fault, found_at}
 
 -- ---- whose they are
@@ -28,9 +28,16 @@ abbrev pub ends_of : List LinkNode → ℕ → List ℕ
 ends_of nodes own = ends_from nodes own 0 nodes
 
 -- ---- what they name
--- the node that holds the port of an endpoint: the one two above it
+-- a node that holds ports alone
+abbrev pub holds_ports : List LinkNode → ℕ → Bool
+holds_ports nodes place = is_named nodes place (codes "ports") || (is_named nodes place (codes "in-ports") || is_named nodes place (codes "out-ports"))
+
+-- the node that holds the port of an endpoint: the one two above it, but for one that holds ports alone
+abbrev pub holder_at : List LinkNode → ℕ → ℕ
+holder_at nodes place = if holds_ports nodes place then (node_at nodes place).above else place
+
 abbrev pub port_holder : List LinkNode → ℕ → ℕ
-port_holder nodes place = (node_at nodes (node_at nodes place).above).above
+port_holder nodes place = holder_at nodes (node_at nodes (node_at nodes place).above).above
 
 -- the holder of the other end's port
 abbrev pub found_other_end : List LinkNode → ℕ → FoundData

@@ -31,6 +31,10 @@ abbrev pub first_of : List ℕ → Option ℕ
 first_of [] = None
 first_of (cell ∷ more) = Some cell
 
+-- the first cell of a node's property of this name
+abbrev pub first_in : List LinkNode → ℕ → List ℕ → Option ℕ
+first_in nodes place name = option_and_then (λ value. first_of (cells_of value)) (value_at nodes place name)
+
 -- the node that a value refers to by its first cell
 abbrev pub named_by : List LinkNode → List ℕ → Option ℕ
 named_by nodes value = option_and_then (place_with nodes) (first_of (cells_of value))
@@ -40,12 +44,12 @@ unfoldable pub most_steps : ℕ
 most_steps = 128
 
 -- ---- the interrupt tree
--- the next node on the way to the interrupt parent: that of `interrupt-parent`, else the node above
+-- the next node on the way to the interrupt parent: that of `interrupt-parent`, else (without it, or where it has no cell) the node above
 abbrev pub above_of : List LinkNode → ℕ → Option ℕ
 above_of nodes place = if place == 0 then None else Some (node_at nodes place).above
 
 abbrev pub towards : List LinkNode → ℕ → Option ℕ
-towards nodes place = option_map_or (named_by nodes) (value_at nodes place (codes "interrupt-parent")) (above_of nodes place)
+towards nodes place = option_map_or (place_with nodes) (first_in nodes place (codes "interrupt-parent")) (above_of nodes place)
 
 -- the first node on that way that takes interrupts, in at most so many steps
 abbrev pub parent_within : List LinkNode → ℕ → ℕ → Option ℕ

@@ -1,7 +1,8 @@
 -- The nodes of a tree in preorder, each named by its place among them, from 0, the root's. Reserved nodes are left out.
-use Rattle.std.specs.Prelude.{ℕ, ◌+◌, Bool, false, not, ◌&&◌, ◌==◌, nat_eq, if◌then◌else◌, List, [], ◌∷◌, ◌++◌, length, Option, Some, None}
+use Rattle.std.specs.Prelude.{ℕ, ◌+◌, Bool, false, not, ◌&&◌, ◌==◌, nat_eq, codes, if◌then◌else◌, List, [], ◌∷◌, ◌++◌, length, take, Option, Some, None}
 use Rattle.std.specs.Option.{option_map_or}
-use Rattle.std.specs.List.{slice_index_or}
+use Rattle.std.specs.List.{list_any, slice_index_or}
+use Rattle.std.specs.Str.{bytes_eq}
 use Rattle.dt_tree.specs.declared.property.Property.{Property}
 use Rattle.dt_tree.specs.NodeData.{Siblings, none, more, NodeData}
 use Rattle.dt_tree.specs.PathMap.{value_of}
@@ -9,9 +10,10 @@ use Rattle.dt_tree.specs.Phandle.{phandle_of}
 use Rattle.dt_tree.specs.Private.PhandleWalk.{unreserved}
 use Rattle.bus_drivers.specs.Nodes.{is_compatible, is_okay}
 
--- a node: its properties, the node above it (the root's is the root), whether it and each node above it is okay, and the nearest
+-- a node: its name, its properties, the node above it (the root's is the root), whether it and each node above it is okay, and the nearest
 -- device at or above it, by its place among the devices
 pub record LinkNode : Type 0 where
+  pub name : List ℕ
   pub properties : List Property
   pub above : ℕ
   pub usable : Bool
@@ -36,16 +38,16 @@ abbrev pub here : Above → Met → List Property → Above
 here above met p = record { place = length met.nodes; usable = above.usable && is_okay p; device = device_here above met p }
 
 -- a node more
-abbrev pub with_node : Above → Met → List Property → Met
-with_node above met p = record {
-  nodes = met.nodes ++ record { properties = p; above = above.place; usable = above.usable && is_okay p; device = device_here above met p } ∷ [];
+abbrev pub with_node : Above → Met → List ℕ → List Property → Met
+with_node above met n p = record {
+  nodes = met.nodes ++ record { name = n; properties = p; above = above.place; usable = above.usable && is_okay p; device = device_here above met p } ∷ [];
   devices = met.devices + (if is_compatible p then 1 else 0);
 }
 
 -- these nodes side by side more, each before those below it
 abbrev pub with_siblings : Above → Met → Siblings → Met
 with_siblings above met none = met
-with_siblings above met (more n p kids rest) = with_siblings above (with_siblings (here above met p) (with_node above met p) kids) rest
+with_siblings above met (more n p kids rest) = with_siblings above (with_siblings (here above met p) (with_node above met n p) kids) rest
 
 -- the root, which is no device
 abbrev pub root_above : NodeData → Above
@@ -53,7 +55,7 @@ root_above root = record { place = 0; usable = is_okay root.properties; device =
 
 abbrev pub met_root : NodeData → Met
 met_root root = record {
-  nodes = record { properties = root.properties; above = 0; usable = is_okay root.properties; device = None } ∷ [];
+  nodes = record { name = root.name; properties = root.properties; above = 0; usable = is_okay root.properties; device = None } ∷ [];
   devices = 0;
 }
 
@@ -64,10 +66,14 @@ tree_nodes root = (with_siblings (root_above root) (met_root root) (unreserved r
 -- ---- look-ups
 -- what stands at no place
 abbrev pub nowhere : LinkNode
-nowhere = record { properties = []; above = 0; usable = false; device = None }
+nowhere = record { name = []; properties = []; above = 0; usable = false; device = None }
 
 abbrev pub node_at : List LinkNode → ℕ → LinkNode
 node_at nodes place = slice_index_or nodes place nowhere
+
+-- a node's name is this one
+abbrev pub is_named : List LinkNode → ℕ → List ℕ → Bool
+is_named nodes place name = bytes_eq (node_at nodes place).name name
 
 -- the value of a node's property of this name
 abbrev pub value_at : List LinkNode → ℕ → List ℕ → Option (List ℕ)
@@ -96,3 +102,12 @@ places_from place (node ∷ others) = own_places place node ++ places_from (plac
 -- the nodes of the devices, in order
 abbrev pub device_places : List LinkNode → List ℕ
 device_places nodes = places_from 0 nodes
+
+-- ---- whose tree it is
+-- PowerPC's processors are named so (PowerPC processor binding to IEEE 1275-1994, section 6.1: `PowerPC,` and the processor's name)
+abbrev pub is_power_core : LinkNode → Bool
+is_power_core node = bytes_eq (take 8 node.name) (codes "PowerPC,")
+
+-- the tree of a PowerPC machine
+abbrev pub is_power : List LinkNode → Bool
+is_power nodes = list_any is_power_core nodes

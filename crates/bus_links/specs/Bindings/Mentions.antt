@@ -7,7 +7,7 @@ use Rattle.dt_tree.specs.declared.property.Property.{Property}
 use Rattle.dt_tree.specs.Cell.{cell_in}
 use Rattle.bus_links.specs.Bindings.Bindings.{Listing, counted, sparse, bare, mapped, controllers, lines, Binding, binding_of}
 use Rattle.bus_links.specs.Bindings.Interrupts.{has, number_in, interrupt_parent, controller_of}
-use Rattle.bus_links.specs.Bindings.LinkNodes.{LinkNode, node_at, place_with}
+use Rattle.bus_links.specs.Bindings.LinkNodes.{LinkNode, node_at, place_with, is_power}
 
 -- this entry of this property names the node at this place
 pub record MentionData : Type 0 where
@@ -142,10 +142,22 @@ is_passed_over nodes own name = bytes_eq name (codes "interrupts") && has nodes 
 abbrev pub counts : Bool → Binding → Bool
 counts strict b = not b.optional || strict
 
+-- PowerPC makes no links by interrupts (`parse_interrupts`)
+abbrev pub is_interrupt : Listing → Bool
+is_interrupt controllers = true
+is_interrupt lines = true
+is_interrupt (counted name) = false
+is_interrupt (sparse name) = false
+is_interrupt bare = false
+is_interrupt mapped = false
+
+abbrev pub counts_in : List LinkNode → Bool → Binding → Bool
+counts_in nodes strict b = counts strict b && not (is_power nodes && is_interrupt b.listing)
+
 abbrev pub found_by : List LinkNode → Bool → ℕ → Property → FoundData
 found_by nodes strict own p =
     if is_passed_over nodes own p.name then nothing
-    else option_map_or (λ b. if counts strict b then found_listed nodes own b.listing p else nothing) (binding_of p.name) nothing
+    else option_map_or (λ b. if counts_in nodes strict b then found_listed nodes own b.listing p else nothing) (binding_of p.name) nothing
 
 -- those of all properties, in order
 abbrev pub found_among : List LinkNode → Bool → ℕ → List Property → FoundData

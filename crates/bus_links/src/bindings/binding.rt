@@ -3,7 +3,7 @@ ghost use Rattle.std.specs.Prelude.{◌≡◌};
 ghost use Rattle.std.specs.Option.{option_map};
 ghost use Rattle.dt_tree.specs.PhandleProperties.View.{link_data, listing_data as listed_data};
 ghost use Rattle.bus_links.specs.Bindings.Bindings.{binding_of, is_optional, listing_in};
-ghost use Rattle.bus_links.specs.Bindings.Mentions.{counts};
+ghost use Rattle.bus_links.specs.Bindings.Mentions.{counts, is_interrupt};
 ghost use Rattle.bus_links.specs.Bindings.BindingView.{binding_data, is_strict, listing_data};
 
 use dt_tree::phandle_properties::{Asker, Link, Listing as Listed, Row};
@@ -98,6 +98,16 @@ impl Binding {
         ensures { listing_data result ≡ (binding_data self.now).listing }
     {
         self.listing
+    }
+
+    /// Whether it lists interrupts.
+    pub fn is_interrupt(&self) -> bool
+        ensures { result ≡ is_interrupt (binding_data self.now).listing }
+    {
+        match self.listing {
+            Listing::Controllers | Listing::Lines => true,
+            _ => false,
+        }
     }
 
     /// Whether it counts.

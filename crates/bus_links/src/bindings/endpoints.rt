@@ -2,7 +2,7 @@
 ghost use Rattle.std.specs.Prelude.{◌≡◌, ◌<◌, ℕ, [], IfOk, OnOk, map, replicate};
 ghost use Rattle.std.specs.List.{slice_index_or};
 ghost use Rattle.bus_links.specs.Bindings.BindingView.{is_strict};
-ghost use Rattle.bus_links.specs.Bindings.Endpoints.{is_end_of, ends_of, port_holder, found_other_end, found_end, found_ends};
+ghost use Rattle.bus_links.specs.Bindings.Endpoints.{is_end_of, ends_of, holds_ports, port_holder, found_other_end, found_end, found_ends};
 ghost use Rattle.bus_links.specs.Bindings.Mentions.{and_then, found_at};
 ghost use Rattle.bus_links.specs.Bindings.Private.Ends.{end_device, GainsEnd};
 
@@ -93,11 +93,23 @@ impl Ends {
     }
 }
 
+// Whether a node holds ports alone.
+fn holds_ports(nodes: &Nodes<'_>, place: usize) -> bool
+    ensures { result ≡ holds_ports nodes.now place }
+{
+    let name = nodes.name(place);
+    name == b"ports".as_slice() || name == b"in-ports".as_slice() || name == b"out-ports".as_slice()
+}
+
 // The node that holds the port of an endpoint.
 fn port_holder(nodes: &Nodes<'_>, place: usize) -> usize
     ensures { result ≡ port_holder nodes.now place }
 {
-    nodes.above(nodes.above(place))
+    let holder = nodes.above(nodes.above(place));
+    if holds_ports(nodes, holder) {
+        return nodes.above(holder);
+    }
+    holder
 }
 
 impl<'t> Found<'t> {

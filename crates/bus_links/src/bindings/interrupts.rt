@@ -5,15 +5,15 @@ ghost use Rattle.bus_plan.specs.PlanPaths.{is_among};
 ghost use Rattle.bus_drivers.specs.TreePlan.{strings};
 ghost use Rattle.bus_links.specs.Bindings.Interrupts.{above_of, towards, parent_within, interrupt_parent, own_maps, has_own_map, is_controller, asked_next, controller_within, address_cells_within, address_bytes, first_byte, padded, key_of, controller_of, most_steps};
 
-use crate::bindings::naming::{bytes, has, named_by, number_or};
+use crate::bindings::naming::{bytes, first_in, has, number_or};
 use crate::bindings::nexus::{Asked, before, most_bytes, row_for};
 use crate::bindings::nodes::Nodes;
 use bus_drivers::next_string;
 use dt_tree::behind;
 use std::alloc::{AllocError, Global};
 
-// More steps than any way has that ends.
-fn most_steps() -> usize
+/// More steps than any way has that ends.
+pub fn most_steps() -> usize
     ensures { result ≡ most_steps }
 {
     128
@@ -32,9 +32,9 @@ fn above_of(nodes: &Nodes<'_>, place: usize) -> Option<usize>
 fn towards(nodes: &Nodes<'_>, place: usize) -> Option<usize>
     ensures { result ≡ towards nodes.now place }
 {
-    match nodes.value(place, b"interrupt-parent") {
+    match first_in(nodes, place, b"interrupt-parent") {
         None => above_of(nodes, place),
-        Some(value) => named_by(nodes, value.as_slice()),
+        Some(phandle) => nodes.with_phandle(phandle),
     }
 }
 

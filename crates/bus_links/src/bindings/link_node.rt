@@ -3,7 +3,7 @@ ghost use Rattle.std.specs.Prelude.{◌≡◌};
 use dt_tree::Node;
 use std::marker::Model;
 
-/// A node of a tree among its nodes in preorder: the place of the node above it, whether it and each node above it is okay, and
+/// A node of a tree among its nodes in preorder, with its name: the place of the node above it, whether it and each node above it is okay, and
 /// the nearest device at or above it.
 #[derive(Drop)]
 pub struct LinkNode<'t> {
@@ -18,13 +18,19 @@ impl<'t> Model for LinkNode<'t> {
 
     ghost Value = { Data };
 
-    ghost view = { λ n. record { properties = n.node.now.properties; above = n.above; usable = n.usable; device = n.device } };
+    ghost view = { λ n. record { name = n.node.now.name; properties = n.node.now.properties; above = n.above; usable = n.usable; device = n.device } };
 }
 
 impl<'t> LinkNode<'t> {
     /// The node of these parts.
     pub fn new(node: &'t Node, above: usize, usable: bool, device: Option<usize>) -> Self
-        ensures { result ≡ record { properties = node.now.properties; above = above; usable = usable; device = device } }
+        ensures { result ≡ record {
+          name = node.now.name;
+          properties = node.now.properties;
+          above = above;
+          usable = usable;
+          device = device;
+        } }
     {
         Self {
             node,
@@ -36,7 +42,8 @@ impl<'t> LinkNode<'t> {
 
     /// The node itself.
     pub fn node(&self) -> &'t Node
-        ensures { result.now.properties ≡ self.now.properties }
+        ensures name { result.now.name ≡ self.now.name }
+        ensures properties { result.now.properties ≡ self.now.properties }
     {
         self.node
     }

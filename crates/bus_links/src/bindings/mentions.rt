@@ -380,7 +380,7 @@ impl<'t> Found<'t> {
         let Some(binding) = Binding::of(property.name.as_bytes()) else {
             return Ok(());
         };
-        if !binding.counts(strictness) {
+        if !binding.counts(strictness) || (nodes.is_power() && binding.is_interrupt()) {
             return Ok(());
         }
         self.add_listed(alloc, nodes, own, binding.listing(), property)

@@ -1,7 +1,7 @@
 //! What nodes say of the nodes that they name.
 ghost use Rattle.std.specs.Prelude.{◌≡◌};
 ghost use Rattle.bus_drivers.specs.References.{cells_of};
-ghost use Rattle.bus_links.specs.Bindings.Interrupts.{has, bytes_at, first_of, named_by, number_in, number_at};
+ghost use Rattle.bus_links.specs.Bindings.Interrupts.{has, bytes_at, first_of, first_in, named_by, number_in, number_at};
 
 use crate::bindings::nodes::Nodes;
 use bus_drivers::next_cell;
@@ -30,6 +30,16 @@ pub fn bytes<'n>(nodes: &'n Nodes<'_>, place: usize, name: &[u8]) -> &'n [u8]
     match nodes.value(place, name) {
         None => &[],
         Some(value) => value.as_slice(),
+    }
+}
+
+/// The first cell of a node's property of this name.
+pub fn first_in(nodes: &Nodes<'_>, place: usize, name: &[u8]) -> Option<u32>
+    ensures { result ≡ first_in nodes.now place name.now }
+{
+    match nodes.value(place, name) {
+        None => None,
+        Some(value) => first_cell(value.as_slice()),
     }
 }
 

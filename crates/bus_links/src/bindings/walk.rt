@@ -59,7 +59,7 @@ impl<'t> Walk<'t> {
     // Keeps a node, and tells what it says of those below it.
     fn meet(&mut self, node: &'t Node, above: &Above) -> Result<Above, AllocError>
         ensures above { IfOk result (λ below. below ≡ here above.now self.old node.now.properties) }
-        ensures walk { OnOk result (self.new ≡ with_node above.now self.old node.now.properties) }
+        ensures walk { OnOk result (self.new ≡ with_node above.now self.old node.now.name node.now.properties) }
     {
         let usable = above.usable && is_okay(node);
         let place = self.nodes.len();

@@ -1,6 +1,6 @@
 //! Links of Linux, row by row.
 
-use crate::links::kernel_rows::ENDS_AND_CYCLES;
+use crate::links::kernel_rows::{DEVICES, ENDS_AND_CYCLES};
 use crate::links::rows::{FAULTS, INTERRUPTS, PROPERTIES, STANDINGS};
 use bus_links::{Strictness, link, linked_text, read_link_drivers, warnings_text};
 use dt_build::build;
@@ -73,6 +73,12 @@ fn rows_of_buses_early_devices_and_cycles(rt: HostRuntime) {
 fn rows_of_endpoints_and_cycles(rt: HostRuntime) {
     let hasher = RandomState::new(&rt).expect(&rt, "a seed");
     are_printed(&rt, rt.alloc(), hasher, &ENDS_AND_CYCLES);
+}
+
+#[test]
+fn rows_of_devices_that_are_made(rt: HostRuntime) {
+    let hasher = RandomState::new(&rt).expect(&rt, "a seed");
+    are_printed(&rt, rt.alloc(), hasher, &DEVICES);
 }
 
 #[test]

@@ -168,7 +168,7 @@ pub const STANDINGS: [Row; 15] = [
         source: "m { compatible = \"e\"; u { compatible = \"c\"; }; }; n { compatible = \"e\"; status = \"disabled\"; };",
         drivers: "driver x c\nearly d e\n",
         strictness: Strictness::Usual,
-        wanted: "# early /m\n/m - -\n/m/u x ok\n/n ! -\ncompatible /m e\n",
+        wanted: "# early /m\n/m - -\n/m/u ! -\n/n ! -\ncompatible /m e\n",
     },
     Row {
         name: "cycle",

@@ -7,7 +7,7 @@ use Rattle.dt_tree.specs.Phandle.{phandle_of}
 use Rattle.bus_links.specs.Bindings.LinkNodes.{Above, Met, here, with_node, with_siblings}
 
 abbrev pub with_tree : Above → Met → NodeData → Met
-with_tree above met b = with_siblings (here above met b.properties) (with_node above met b.properties) b.children
+with_tree above met b = with_siblings (here above met b.properties) (with_node above met b.name b.properties) b.children
 
 -- the place, where the node has this phandle
 abbrev pub own_place : List Property → ℕ → ℕ → Option ℕ
