@@ -20,3 +20,5 @@ mod spots;
 mod standing;
 #[cfg(test)]
 mod telling;
+#[cfg(test)]
+mod wordings;

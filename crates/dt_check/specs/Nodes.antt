@@ -1,5 +1,5 @@
 -- The nodes of a tree in preorder, each named by its place among them, from 0, the root's.
-use Rattle.std.specs.Prelude.{ℕ, ◌+◌, Bool, false, nat_eq, if◌then◌else◌, List, [], ◌∷◌, ◌++◌, length, Option, Some, None, option_and_then}
+use Rattle.std.specs.Prelude.{ℕ, ◌+◌, Bool, false, codes, nat_eq, if◌then◌else◌, List, [], ◌∷◌, ◌++◌, length, Option, Some, None, option_and_then}
 use Rattle.std.specs.Option.{option_map, option_map_or}
 use Rattle.std.specs.List.{slice_get}
 use Rattle.std.proofs.Common.{refl}
@@ -7,7 +7,8 @@ use Rattle.std.specs.Coded.{Coded, code_by, coded×, coded_ℕ, coded_option}
 use Rattle.dt_tree.specs.NodeCode.{coded_node}
 use Rattle.dt_tree.specs.NodeData.{Siblings, none, more, NodeData, node_data}
 use Rattle.dt_tree.specs.PathMap.{value_of}
-use Rattle.dt_tree.specs.Phandle.{phandle_of}
+use Rattle.dt_tree.specs.declared.property.Property.{Property}
+use Rattle.dt_tree.specs.Phandle.{or_else, phandle_in, phandle_of}
 
 -- a node, and the place of the one above it
 pub record PlacedData : Type 0 where
@@ -58,8 +59,12 @@ abbrev pub coded_here : Coded HereData
 coded_here = code_by (NodeData × Option NodeData) (coded× coded_node (coded_option coded_node)) (λ h. (h.node, h.above)) (λ p. record { node = p.0; above = p.1 }) (λ _. refl)
 
 -- ---- phandles
+-- a node's own: in `phandle`, else in `linux,phandle`, as trees of before 2012 have it
+abbrev pub number_of : List Property → Option ℕ
+number_of ps = or_else (phandle_of ps) (option_and_then phandle_in (value_of ps (codes "linux,phandle")))
+
 abbrev pub has_phandle : ℕ → PlacedData → Bool
-has_phandle phandle p = option_map_or (nat_eq phandle) (phandle_of p.node.properties) false
+has_phandle phandle p = option_map_or (nat_eq phandle) (number_of p.node.properties) false
 
 -- the first of these nodes that has a phandle; the first of them has this place
 abbrev pub place_from : ℕ → ℕ → List PlacedData → Option ℕ

@@ -133,8 +133,8 @@ pub enum Message {
     BadParent,
     /// No node has the phandle in `interrupt-parent`.
     NoParent,
-    /// The node that `interrupt-parent` leads to takes no interrupts.
-    NotAProvider,
+    /// The node takes no interrupts, though the `interrupt-parent` of the node at this place leads to it.
+    NotAProvider(usize),
     /// `interrupts` isn't made of specifiers of so many bytes.
     InterruptLength {
         bytes: usize,

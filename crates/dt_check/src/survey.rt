@@ -3,7 +3,7 @@ ghost use Rattle.std.specs.Prelude.{◌≡◌, ◌<◌, ℕ, nat_eq, length, tak
 ghost use Rattle.std.specs.Option.{option_copied};
 ghost use Rattle.dt_tree.specs.Phandle.{or_else};
 ghost use Rattle.indexmap.specs.IndexMap.{get};
-ghost use Rattle.dt_check.specs.Nodes.{place_from};
+ghost use Rattle.dt_check.specs.Nodes.{number_of, place_from};
 ghost use Rattle.dt_check.specs.Private.Places.{own_place};
 
 use crate::here::Here;
@@ -38,16 +38,29 @@ impl<'t> Model for Survey<'t> {
     ghost invariant = { λ s. (phandle : ℕ) → get nat_eq s.places phandle ≡ place_with s.nodes.items phandle };
 }
 
+// The phandle of a node.
+fn number_of(placed: &Placed<'_>) -> Option<u32>
+    ensures { result ≡ number_of placed.now.node.properties }
+{
+    if let Some(phandle) = placed.node().phandle() {
+        return Some(phandle);
+    }
+    match placed.value(b"linux,phandle") {
+        None => None,
+        Some(value) => value.phandle(),
+    }
+}
+
 // Of several nodes with one phandle, the first stays.
 fn keep_place(
     places: &mut IndexMap<u32, usize, RandomState>,
-    node: &Node,
+    placed: &Placed<'_>,
     place: usize,
 ) -> Result<(), AllocError>
     ensures { OnOk result ((q : ℕ) → get nat_eq places.new q
-        ≡ or_else (get nat_eq places.old q) (own_place node.now.properties place q)) }
+        ≡ or_else (get nat_eq places.old q) (own_place placed.now.node.properties place q)) }
 {
-    let Some(phandle) = node.phandle() else {
+    let Some(phandle) = number_of(placed) else {
         return Ok(());
     };
     if !places.contains_key(&phandle) {
@@ -63,8 +76,8 @@ fn keep_places(
     requires { (q : ℕ) → get nat_eq places.old q ≡ None }
     ensures { OnOk result ((q : ℕ) → get nat_eq places.new q ≡ place_from 0 q nodes.now) }
 {
-    for (place, node) in nodes.iter().enumerate() {
-        keep_place(places, node.node(), place)?;
+    for (place, placed) in nodes.iter().enumerate() {
+        keep_place(places, placed, place)?;
     }
     Ok(())
 }

@@ -1,5 +1,8 @@
+pub mod CheckView
+pub mod Checks
 pub mod Finding
 pub mod Found
+pub mod Looks
 pub mod Private
 pub mod Rules
 pub mod Run

@@ -67,6 +67,7 @@ pub fn say_device(writer: &mut Writer, message: Message) -> Result<bool, AllocEr
         }
         Message::SevenBits(number) => {
             writer.hex("an address of more than 7 bits: 0x", u64::from(number))?;
+            writer.put(b"; one of 10 bits has bit 31 (I2C_TEN_BIT_ADDRESS) set")?;
         }
         _ => return Ok(false),
     }

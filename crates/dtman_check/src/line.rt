@@ -41,7 +41,7 @@ pub fn put_line(
     };
     let above = Above::of(path_above(path.as_slice()), located.above, asked.reference);
     let mut words = Writer::new(alloc);
-    say(alloc, &mut words, survey, finding.message, above)?;
+    say(alloc, &mut words, survey, finding, above)?;
     let check = Judged {
         name: name_of(finding.check),
         fails: selection.level(finding.check).fails,

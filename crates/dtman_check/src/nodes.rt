@@ -123,9 +123,6 @@ pub fn plain_words(message: Message) -> &'static str {
         Message::NoInterruptParent => "no node takes its interrupts: no interrupt-parent",
         Message::BadParent => "holds no phandle",
         Message::NoParent => "no node has this phandle",
-        Message::NotAProvider =>
-            "takes no interrupts: neither interrupt-controller nor interrupt-map",
-        Message::NoAliasNode => "leads to no node",
         Message::AliasName =>
             "the name of an alias has other than lower case letters, digits and -",
         Message::PhandlesDiffer => "phandle and linux,phandle differ",

@@ -1,7 +1,7 @@
 //! Where findings stand in the user's files.
 use crate::answer::Source;
 use crate::table::Finding;
-use dt_check::Survey;
+use dt_check::{Message, Survey, is_named};
 use dt_text::place::{Position, positions_of};
 use dt_tree::Node;
 use std::alloc::{AllocError, Global};
@@ -65,6 +65,19 @@ pub fn locate_findings<'a>(
     Ok(located)
 }
 
+// Whose property a finding tells of: of the root that of /chosen, which dtc tells there.
+fn holder_of(survey: &Survey<'_>, finding: &Finding<'_>, place: usize) -> usize {
+    match finding.message {
+        Message::ObsoleteController => chosen_in(survey).unwrap_or(place),
+        _ => place,
+    }
+}
+
+fn chosen_in(survey: &Survey<'_>) -> Option<usize> {
+    survey.as_slice().iter().position(|placed| placed.above() == Some(0)
+        && is_named(placed.node(), b"chosen"))
+}
+
 // A property that the compiler added is where its node is; above the root is the root.
 fn spots_of(source: Source<'_>, survey: &Survey<'_>, finding: &Finding<'_>) -> Spots {
     let Some(place) = finding.node else {
@@ -75,7 +88,7 @@ fn spots_of(source: Source<'_>, survey: &Survey<'_>, finding: &Finding<'_>) -> S
     };
     let found = match finding.property {
         None => None,
-        Some(name) => property_spot(source, survey, place, name),
+        Some(name) => { property_spot(source, survey, holder_of(survey, finding, place), name) }
     };
     let own = match found {
         None => node_spot(source, survey, place),

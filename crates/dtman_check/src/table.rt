@@ -21,7 +21,7 @@ pub use near::is_near;
 pub use reference::{BadReference, Reference, Row, RowRange, list_of};
 pub use rule::{LinkRule, PropertyRule, Rule};
 pub use run::{Report, run_checks};
-pub use selection::{Change, Kind, Least, Level, Selection, check_named};
+pub use selection::{Change, Kind, Least, Level, Selection};
 pub use subject::Subject;
 pub use table::{CHECK_COUNT, DTC_COUNT, UNKNOWN_PROPERTY, check_at};
 pub use units::{Counted, find_units};

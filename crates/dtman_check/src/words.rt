@@ -1,9 +1,9 @@
 //! What a finding says, in words.
 use crate::buses::{say_bridge, say_device, say_graph};
-use crate::links::{say_lists, say_nodes};
+use crate::links::{say_alias, say_lists, say_nodes};
 use crate::nodes::{plain_words, say_numbers};
 use crate::places::Site;
-use crate::table::{Reference, check_at};
+use crate::table::{Finding, Reference, check_at};
 use crate::writer::Writer;
 use dt_check::{Message, Survey};
 use std::alloc::{AllocError, Global};
@@ -61,14 +61,15 @@ fn say_unknown(
     }
 }
 
-/// Puts the words of a message last.
+/// Puts the words of a finding last.
 pub fn say(
     alloc: Global,
     writer: &mut Writer,
     survey: &Survey<'_>,
-    message: Message,
+    finding: &Finding<'_>,
     above: Above<'_>,
 ) -> Result<(), AllocError> {
+    let message = finding.message;
     if let Message::Prerequisite(check) = message {
         return say_prerequisite(writer, check);
     }
@@ -80,7 +81,8 @@ pub fn say(
         || say_device(writer, message)?
         || say_graph(writer, message, above)?
         || say_lists(writer, message)?
-        || say_nodes(alloc, writer, survey, message)?;
+        || say_alias(writer, survey, finding)?
+        || say_nodes(alloc, writer, survey, finding)?;
     if said {
         return Ok(());
     }

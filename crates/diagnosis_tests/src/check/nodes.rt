@@ -19,6 +19,7 @@ pub const NODES: &[&str] = &[
     "explicit_phandles | a { linux,phandle = [01]; }; | /a:linux,phandle",
     "explicit_phandles | a { phandle = <1>; linux,phandle = <2>; }; | /a",
     "explicit_phandles | a { phandle = <7>; }; b { linux,phandle = <7>; }; | /b",
+    "explicit_phandles | a { linux,phandle = <7>; }; b { linux,phandle = <7>; }; c { phandle = <7>; }; | /b /c",
     "device_type_is_string | a { device_type = \"x\"; }; | -",
     "device_type_is_string | a { device_type = <1>; }; | /a:device_type",
     "device_type_is_string | a { device_type = \"x\", \"y\"; }; | /a:device_type",

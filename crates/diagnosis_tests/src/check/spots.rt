@@ -39,8 +39,21 @@ board.dtsi:42.1-2: Warning (unit_address_vs_reg): /soc/c: has reg or ranges, but
 const JSON: &str =
     "{\"file\":\"board.dtsi\",\"line\":42,\"column\":1,\"end\":2,\"severity\":\"warning\",\"check\":\"unit_address_vs_reg\",\"path\":\"/soc/c\",\"message\":\"has reg or ranges, but no unit address\"}\n";
 
-/// Whether a check's lines are asked for, and their shape.
+// What is told of the root stands in another node.
+const CHOSEN: &str = "/dts-v1/;\n\
+/ {\n\
+chosen {\n\
+interrupt-controller = <1>;\n\
+};\n\
+};\n\
+";
+
+const CHOSEN_PLAIN: &str =
+    "x.dts:4.1-21: Warning (obsolete_chosen_interrupt_controller): /:interrupt-controller: /chosen has it, as nothing reads any more\n";
+
+/// A source, whether a check's lines are asked for, and their shape.
 struct Row {
+    text: &'static str,
     without: &'static [&'static str],
     shape: Shape,
     wanted: &'static str,
@@ -48,6 +61,7 @@ struct Row {
 
 const ROWS: &[Row] = &[
     Row {
+        text: TEXT,
         without: &[
             "no-pci_device_reg",
             "no-pci_device_bus_num",
@@ -59,14 +73,21 @@ const ROWS: &[Row] = &[
         wanted: PLAIN,
     },
     Row {
+        text: TEXT,
         without: &["no-reg_format"],
         shape: Shape::Json,
         wanted: JSON,
     },
+    Row {
+        text: CHOSEN,
+        without: &["no-interrupt_provider"],
+        shape: Shape::Plain,
+        wanted: CHOSEN_PLAIN,
+    },
 ];
 
 fn answer(rt: &impl Abort, alloc: Global, hasher: RandomState, row: &Row) -> Answer {
-    let source = parse(alloc, TEXT.as_bytes(), Language::Dtc).expect(rt, "a source");
+    let source = parse(alloc, row.text.as_bytes(), Language::Dtc).expect(rt, "a source");
     let built = build_dtc_within(alloc, hasher, &source, false, MAX_BLOB_LEN).expect(rt, "a tree");
     let Built { tree, places } = built.expect(rt, "a short one");
     let mut selection = Selection::usual(alloc).expect(rt, "memory");
@@ -78,7 +99,7 @@ fn answer(rt: &impl Abort, alloc: Global, hasher: RandomState, row: &Row) -> Ans
     let lines = Lines {
         file: b"x.dts",
         source: Some(Source {
-            text: TEXT.as_bytes(),
+            text: row.text.as_bytes(),
             places: &places,
         }),
         shape: row.shape,

@@ -69,16 +69,17 @@ length_fault nodes own =
     else Some (at_node own (of_property (codes "interrupts") (InterruptLength (length v) 4))))
     (lines nodes own)
 
-abbrev pub found_fault : Way → Option LinkFaultData
-found_fault (NoPhandle at) = Some (at_node at (of_property (codes "interrupt-parent") BadParent))
-found_fault (NoNode at) = Some (at_node at (of_property (codes "interrupt-parent") NoParent))
-found_fault (NotAProvider place) = Some (at_node place (of_node TakesNone))
-found_fault (Found place) = None
-found_fault Open = None
-found_fault Nowhere = None
+-- of the way that begins at `own`: a node that takes none is told whose interrupts lead there
+abbrev pub found_fault : ℕ → Way → Option LinkFaultData
+found_fault own (NoPhandle at) = Some (at_node at (of_property (codes "interrupt-parent") BadParent))
+found_fault own (NoNode at) = Some (at_node at (of_property (codes "interrupt-parent") NoParent))
+found_fault own (NotAProvider place) = Some (at_node place (of_node (TakesNone own)))
+found_fault own (Found place) = None
+found_fault own Open = None
+found_fault own Nowhere = None
 
 abbrev pub search_fault : List PlacedData → ℕ → Option LinkFaultData
-search_fault nodes own = option_and_then (λ _. found_fault (search nodes own)) (lines nodes own)
+search_fault nodes own = option_and_then (λ _. found_fault own (search nodes own)) (lines nodes own)
 
 abbrev pub no_parent : ℕ → Way → Option LinkFaultData
 no_parent own (NoPhandle at) = Some (at_node own (of_node NoInterruptParent))

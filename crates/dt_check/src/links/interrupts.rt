@@ -121,8 +121,8 @@ pub fn length_fault(survey: &Survey<'_>, own: usize) -> Option<LinkFault<'static
     Some(LinkFault::at(own, Fault::of_property(b"interrupts", message)))
 }
 
-fn found_fault(found: Way) -> Option<LinkFault<'static>>
-    ensures { result ≡ found_fault found }
+fn found_fault(own: usize, found: Way) -> Option<LinkFault<'static>>
+    ensures { result ≡ found_fault own found }
 {
     match found {
         Way::NoPhandle(at) => Some(LinkFault::at(
@@ -133,9 +133,10 @@ fn found_fault(found: Way) -> Option<LinkFault<'static>>
             at,
             Fault::of_property(b"interrupt-parent", Message::NoParent),
         )),
-        Way::NotAProvider(place) => {
-            Some(LinkFault::at(place, Fault::of_node(Message::NotAProvider)))
-        }
+        Way::NotAProvider(place) => Some(LinkFault::at(
+            place,
+            Fault::of_node(Message::NotAProvider(own)),
+        )),
         _ => None,
     }
 }
@@ -146,7 +147,7 @@ pub fn search_fault(survey: &Survey<'_>, own: usize) -> Option<LinkFault<'static
 {
     match lines(survey, own) {
         None => None,
-        Some(_) => found_fault(search(survey, own)),
+        Some(_) => found_fault(own, search(survey, own)),
     }
 }
 

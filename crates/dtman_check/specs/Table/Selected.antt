@@ -1,9 +1,10 @@
 -- Which checks are asked for (dtc's manual, Documentation/manual.txt, section 'Command-line arguments', -W and -E; the names are said by
 -- `dtc -W`): a check warns, is an error, or neither. With one that is asked for go those that it stands on; with one that isn't, those
 -- that stand on it.
-use Rattle.std.specs.Prelude.{ℕ, ◌+◌, Bool, true, false, not, ◌&&◌, ◌||◌, ◌==◌, if◌then◌else◌, List, [], ◌∷◌}
+use Rattle.std.specs.Prelude.{ℕ, ◌+◌, Bool, true, false, not, ◌&&◌, ◌||◌, ◌==◌, nat_eq, codes, if◌then◌else◌, List, [], ◌∷◌, take, drop, Option}
 use Rattle.std.specs.Option.{option_map_or}
-use Rattle.std.specs.List.{slice_get, list_any}
+use Rattle.std.specs.List.{slice_get, list_any, position_from, starts_with}
+use Rattle.std.specs.Str.{bytes_eq}
 use Rattle.dtman_check.specs.declared.table.check.Check.{Check}
 use Rattle.dtman_check.specs.declared.table.check.Severity.{Severity}
 use Rattle.dtman_check.specs.declared.table.check.Severity.TheVariants.{Off, Warning, Error}
@@ -13,6 +14,7 @@ use Rattle.dtman_check.specs.declared.table.selection.Kind.TheVariants.{Warning 
 use Rattle.dtman_check.specs.declared.table.selection.Least.{Least}
 use Rattle.dtman_check.specs.declared.table.selection.Least.TheVariants.{Warning as AtLeastWarning, Error as AtLeastError}
 use Rattle.dtman_check.specs.declared.table.selection.Level.{Level}
+use Rattle.dtman_check.specs.Table.Checks.{CheckData, checks}
 
 pub record SelectionData : Type 0 where
   pub rows : List Check
@@ -68,6 +70,29 @@ abbrev pub changed : Change → SelectionData → SelectionData
 changed c s =
     if is_done s.levels c then s
     else record { rows = s.rows; levels = changed_from s.rows c 0 s.levels }
+
+-- ---- by an option's word
+-- the check of a name; the last of the table is asked for by its reference set alone
+abbrev pub is_called : List ℕ → CheckData → Bool
+is_called name r = bytes_eq r.name name
+
+abbrev pub check_of : List ℕ → Option ℕ
+check_of name = position_from (is_called name) 0 (take 89 checks)
+
+-- a name, or one behind `no-` or `no_`
+abbrev pub is_against : List ℕ → Bool
+is_against word = starts_with nat_eq word (codes "no-") || starts_with nat_eq word (codes "no_")
+
+abbrev pub name_in : List ℕ → List ℕ
+name_in word = if is_against word then drop 3 word else word
+
+-- what an option with this word asks
+abbrev pub change_by : Kind → List ℕ → ℕ → Change
+change_by kind word check = record { kind = kind; check = check; on = not (is_against word) }
+
+-- nothing where no check has the name
+abbrev pub applied : Kind → List ℕ → SelectionData → SelectionData
+applied kind word s = option_map_or (λ check. changed (change_by kind word check) s) (check_of (name_in word)) s
 
 -- ---- what is asked for
 abbrev pub is_asked : Least → Level → Bool

@@ -1,5 +1,7 @@
 //! Which checks are made, and what they tell.
-ghost use Rattle.std.specs.Prelude.{◌≡◌, ◌&&◌, IfOk, OnOk};
+ghost use Rattle.std.specs.Prelude.{◌≡◌, ◌&&◌, IfOk, OnOk, map};
+ghost use Rattle.dtman_check.specs.Table.Checks.{checks};
+ghost use Rattle.dtman_check.specs.Table.CheckView.{check_data};
 ghost use Rattle.dtman_check.specs.Table.Run.{FindsOf, TellsOf};
 
 use crate::table::check::{Check, Finds};
@@ -181,7 +183,10 @@ pub fn run_checks<'t>(
     selection: &Selection,
     least: Least,
 ) -> Result<Report<'t>, AllocError>
-    ensures { IfOk result (λ report. TellsOf subject.entry selection.now least report.findings.items report.failed) }
+    ensures told { IfOk result (λ report.
+        TellsOf subject.entry selection.now least report.findings.items report.failed) }
+    // Whatever is selected, the table is dtc's.
+    ensures table { map check_data selection.now.rows ≡ checks }
 {
     let rows = selection.rows();
     let mut run = Run {

@@ -1,10 +1,13 @@
 //! Which checks warn and which are errors.
-ghost use Rattle.std.specs.Prelude.{◌≡◌, IfOk};
-ghost use Rattle.std.specs.List.{list_any};
-ghost use Rattle.dtman_check.specs.Table.Selected.{usual, usual_levels, is_among, stands_on, goes_along, goes, level_with, is_so, changed_at, changed_from, is_asked};
+ghost use Rattle.std.specs.Prelude.{◌≡◌, IfOk, map};
+ghost use Rattle.std.specs.List.{list_any, position_from};
+ghost use Rattle.dtman_check.specs.Table.Selected.{usual, usual_levels, is_among, stands_on, goes_along, goes, level_with, is_so, changed_at, changed_from, is_asked, is_against, is_called, name_in, check_of};
+ghost use Rattle.dtman_check.specs.Table.Checks.{checks};
+ghost use Rattle.dtman_check.specs.Table.CheckView.{check_data};
 
 use crate::table::check::{Check, Severity};
-use crate::table::table::{CHECK_COUNT, UNKNOWN_PROPERTY, check_at};
+use crate::table::table::{CHECK_COUNT, PARTS, UNKNOWN_PROPERTY, part};
+use dt_check::is_same;
 use std::alloc::{AllocError, Global};
 use std::marker::Model;
 
@@ -169,31 +172,39 @@ fn changed(
     Ok(new)
 }
 
-fn all_rows(alloc: Global) -> Result<Vec<Check>, AllocError> {
+fn all_rows(alloc: Global) -> Result<Vec<Check>, AllocError>
+    ensures { IfOk result (λ rows. map check_data rows.items ≡ checks) }
+{
     let mut rows = Vec::with_capacity(alloc, CHECK_COUNT)?;
-    for place in 0..CHECK_COUNT {
-        if let Some(check) = check_at(place) {
-            rows.push(*check)?;
-        }
+    for number in 0..PARTS {
+        rows.extend_from_slice(part(number))?;
     }
     Ok(rows)
 }
 
-fn is_called(place: usize, name: &str) -> bool {
-    match check_at(place) {
-        None => false,
-        Some(check) => check.name == name,
-    }
-}
-
-/// The check of this name, by its place in the table: `unknown_property` is asked for by its reference set alone.
-pub fn check_named(name: &str) -> Option<usize> {
-    for place in 0..UNKNOWN_PROPERTY {
-        if is_called(place, name) {
+// The check of a name, by its place in these rows.
+fn place_in(rows: &[Check], name: &[u8]) -> Option<usize>
+    ensures { result ≡ position_from (is_called name.now) 0 (map check_data rows.now) }
+{
+    for (place, row) in rows.iter().enumerate() {
+        if is_same(row.name.as_bytes(), name) {
             return Some(place);
         }
     }
     None
+}
+
+// Whether a word is a name behind `no-`.
+fn is_against(word: &[u8]) -> bool
+    ensures { result ≡ is_against word.now }
+{
+    word.starts_with(b"no-") || word.starts_with(b"no_")
+}
+
+fn name_in(word: &[u8]) -> &[u8]
+    ensures { result.now ≡ name_in word.now }
+{
+    if is_against(word) { &word[3..] } else { word }
 }
 
 /// The checks that are asked for.
@@ -205,17 +216,23 @@ pub struct Selection {
 }
 
 impl Model for Selection {
+    ghost use Rattle.std.specs.Prelude.{◌≡◌, map};
+    ghost use Rattle.dtman_check.specs.Table.Checks.{checks};
+    ghost use Rattle.dtman_check.specs.Table.CheckView.{check_data};
     ghost use Rattle.dtman_check.specs.Table.Selected.{SelectionData};
 
     ghost Value = { SelectionData };
 
     ghost view = { λ s. record { rows = s.rows.items; levels = s.levels.items } };
+
+    // The table is dtc's, row by row.
+    ghost invariant = { λ s. map check_data s.rows.items ≡ checks };
 }
 
 impl Selection {
-    ghost use Rattle.std.specs.Prelude.{not, true, OnOk, OnErr, slice_get};
+    ghost use Rattle.std.specs.Prelude.{not, true, OnOk, OnErr, is_some, slice_get};
     ghost use Rattle.std.specs.Option.{option_copied};
-    ghost use Rattle.dtman_check.specs.Table.Selected.{level_at, asks_for, any_asks_for, is_done, is_due, changed};
+    ghost use Rattle.dtman_check.specs.Table.Selected.{level_at, asks_for, any_asks_for, is_done, is_due, changed, applied};
 
     /// dtc's own.
     pub fn usual(alloc: Global) -> Result<Self, AllocError>
@@ -232,7 +249,8 @@ impl Selection {
 
     /// The table.
     pub fn rows(&self) -> &[Check]
-        ensures { result.now ≡ self.now.rows }
+        ensures rows { result.now ≡ self.now.rows }
+        ensures checks { map check_data self.now.rows ≡ checks }
     {
         self.rows.as_slice()
     }
@@ -331,19 +349,25 @@ impl Selection {
         self.level(UNKNOWN_PROPERTY).is_asked(Least::Warning)
     }
 
+    // The check of a name: `unknown_property` is asked for by its reference set alone.
+    fn place_of(&self, name: &[u8]) -> Option<usize>
+        ensures { result ≡ check_of name.now }
+    {
+        place_in(&self.rows[..UNKNOWN_PROPERTY], name)
+    }
+
     /// Takes the word of an option: a check's name, or one behind `no-`, by which it goes. Says whether there is such a check; else
-    /// nothing changes.
-    pub fn apply(&mut self, kind: Kind, word: &str) -> Result<bool, AllocError> {
-        let (name, on) = match word.strip_prefix("no-") {
-            Some(name) => (name, false),
-            None => match word.strip_prefix("no_") {
-                Some(name) => (name, false),
-                None => (word, true),
-            },
-        };
-        let Some(check) = check_named(name) else {
+    /// nothing changes, nor for want of memory.
+    pub fn apply(&mut self, kind: Kind, word: &str) -> Result<bool, AllocError>
+        ensures known { IfOk result (λ known. known ≡ is_some (check_of (name_in word.now))) }
+        ensures done { OnOk result (self.new ≡ applied kind word.now self.old) }
+        ensures refused { OnErr result (self.new ≡ self.old) }
+    {
+        let word = word.as_bytes();
+        let Some(check) = self.place_of(name_in(word)) else {
             return Ok(false);
         };
+        let on = !is_against(word);
         self.change(Change { kind, check, on })?;
         Ok(true)
     }

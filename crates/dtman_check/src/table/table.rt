@@ -6,6 +6,11 @@ mod lists;
 mod nodes;
 mod own;
 
+ghost use Rattle.std.specs.Prelude.{◌≡◌, ◌*◌, map, take, drop, slice_get};
+ghost use Rattle.std.specs.Option.{option_copied, option_map};
+ghost use Rattle.dtman_check.specs.Table.Checks.{checks};
+ghost use Rattle.dtman_check.specs.Table.CheckView.{check_data};
+
 use crate::table::check::Check;
 use crate::table::table::links::part_7;
 use crate::table::table::lists::{part_4, part_5, part_6};
@@ -24,7 +29,13 @@ pub const UNKNOWN_PROPERTY: usize = 89;
 /// How many there are in a part.
 const PART: usize = 11;
 
-fn part(number: usize) -> &'static [Check] {
+/// How many parts there are.
+pub const PARTS: usize = 9;
+
+/// A part of the table.
+pub fn part(number: usize) -> &'static [Check]
+    ensures { map check_data result.now ≡ take PART (drop (PART * number) checks) }
+{
     match number {
         0 => part_0(),
         1 => part_1(),
@@ -40,6 +51,8 @@ fn part(number: usize) -> &'static [Check] {
 }
 
 /// The check at a place of the table.
-pub fn check_at(place: usize) -> Option<&'static Check> {
+pub fn check_at(place: usize) -> Option<&'static Check>
+    ensures { option_map check_data (option_copied result) ≡ slice_get checks place }
+{
     part(place / PART).get(place % PART)
 }

@@ -1,5 +1,9 @@
 //! The rest of dtc's: lines of GPIO controllers, interrupts, aliases, graphs.
 
+ghost use Rattle.std.specs.Prelude.{◌≡◌, map, take, drop};
+ghost use Rattle.dtman_check.specs.Table.Checks.{checks};
+ghost use Rattle.dtman_check.specs.Table.CheckView.{check_data};
+
 use crate::table::check::{Among, Check, Finds, Listed, Severity};
 use crate::table::rule::{LinkRule, PropertyRule, Rule};
 use crate::table::table::PART;
@@ -130,6 +134,8 @@ static PART_7: [Check; PART] = [
     },
 ];
 
-pub fn part_7() -> &'static [Check] {
+pub fn part_7() -> &'static [Check]
+    ensures { map check_data result.now ≡ take 11 (drop 77 checks) }
+{
     &PART_7
 }

@@ -1,5 +1,9 @@
 //! The second half but for its end: `/chosen` and the lists of phandles.
 
+ghost use Rattle.std.specs.Prelude.{◌≡◌, map, take, drop};
+ghost use Rattle.dtman_check.specs.Table.Checks.{checks};
+ghost use Rattle.dtman_check.specs.Table.CheckView.{check_data};
+
 use crate::table::check::{Among, Check, Finds, Listed, Severity};
 use crate::table::rule::Rule;
 use crate::table::table::PART;
@@ -368,14 +372,20 @@ static PART_6: [Check; PART] = [
     },
 ];
 
-pub fn part_4() -> &'static [Check] {
+pub fn part_4() -> &'static [Check]
+    ensures { map check_data result.now ≡ take 11 (drop 44 checks) }
+{
     &PART_4
 }
 
-pub fn part_5() -> &'static [Check] {
+pub fn part_5() -> &'static [Check]
+    ensures { map check_data result.now ≡ take 11 (drop 55 checks) }
+{
     &PART_5
 }
 
-pub fn part_6() -> &'static [Check] {
+pub fn part_6() -> &'static [Check]
+    ensures { map check_data result.now ≡ take 11 (drop 66 checks) }
+{
     &PART_6
 }

@@ -1,5 +1,9 @@
 //! The first half of the table: names, texts, addresses, buses.
 
+ghost use Rattle.std.specs.Prelude.{◌≡◌, map, take, drop};
+ghost use Rattle.dtman_check.specs.Table.Checks.{checks};
+ghost use Rattle.dtman_check.specs.Table.CheckView.{check_data};
+
 use crate::table::check::{Among, Check, Finds, Severity};
 use crate::table::rule::{LinkRule, PropertyRule, Rule};
 use crate::table::table::PART;
@@ -381,18 +385,26 @@ static PART_3: [Check; PART] = [
     },
 ];
 
-pub fn part_0() -> &'static [Check] {
+pub fn part_0() -> &'static [Check]
+    ensures { map check_data result.now ≡ take 11 (drop 0 checks) }
+{
     &PART_0
 }
 
-pub fn part_1() -> &'static [Check] {
+pub fn part_1() -> &'static [Check]
+    ensures { map check_data result.now ≡ take 11 (drop 11 checks) }
+{
     &PART_1
 }
 
-pub fn part_2() -> &'static [Check] {
+pub fn part_2() -> &'static [Check]
+    ensures { map check_data result.now ≡ take 11 (drop 22 checks) }
+{
     &PART_2
 }
 
-pub fn part_3() -> &'static [Check] {
+pub fn part_3() -> &'static [Check]
+    ensures { map check_data result.now ≡ take 11 (drop 33 checks) }
+{
     &PART_3
 }

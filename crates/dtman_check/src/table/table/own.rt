@@ -1,5 +1,9 @@
 //! Checks of mistakes that none of dtc's sees: off where nothing is said.
 
+ghost use Rattle.std.specs.Prelude.{◌≡◌, map, take, drop};
+ghost use Rattle.dtman_check.specs.Table.Checks.{checks};
+ghost use Rattle.dtman_check.specs.Table.CheckView.{check_data};
+
 use crate::table::check::{Among, Check, Finds, Severity};
 use crate::table::rule::Rule;
 
@@ -20,6 +24,8 @@ static PART_8: [Check; 2] = [
     },
 ];
 
-pub fn part_8() -> &'static [Check] {
+pub fn part_8() -> &'static [Check]
+    ensures { map check_data result.now ≡ take 11 (drop 88 checks) }
+{
     &PART_8
 }

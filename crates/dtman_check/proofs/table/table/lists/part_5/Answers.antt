@@ -1,0 +1,7 @@
+use Rattle.std.proofs.Common.{refl}
+use Rattle.dtman_check.specs.Table.Checks.{checks, named_checks}
+use Rattle.dtman_check.proofs.table.table.lists.part_5.Goals as goal
+
+pub returns : goal.returns
+unfolding checks named_checks
+returns c = refl
