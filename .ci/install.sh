@@ -55,11 +55,14 @@ c|check compile cpp
 compile |board.dts sub
 compile board.dts |board.dtb hat.dtbo sub
 compile --s|--symbols
-compile --d|--define --dtc
+compile --d|--define --depfile --dtc
 compile --dtc -i |sub
 compile --dtc -i sub -i sub |board.dts sub
 compile -I |sub
 cpp |board.dts sub
+fmt |board.dts sub
+fmt --out |board.dts sub
+lsp -I |sub
 set --out |board.dtb hat.dtbo sub
 dtc --sy|--symbols
 dtc -o out.dtb -p 8 |board.dtb board.dts hat.dtbo sub

@@ -192,10 +192,15 @@ LINES = """
 0 plan clock.dtb drivers --html --of /clk --links linux
 0 replay plan schedule
 0 probe clock.dtb drivers --workers 2
+0 find clock.dtb clocks
+0 who clock.dtb /clk
+0 fmt base.dts
+0 fmt base.dts --out OUT --hex
 0 explain 63
 0 --help
 0 --version
 1 compile wrong.dts OUT
+1 fmt wrong.dts
 1 overlay base.dtb clock.dtb OUT
 1 plan wrong.dts drivers
 1 replay plan drivers

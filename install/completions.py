@@ -13,13 +13,13 @@ NUMBER, FOLDER = ("number",), ("/",)
 # What shells offer in the place of an operand or of an option's value, by its name, or that of one command by both: files with one of
 # these endings, numbers of errors, or folders. In other places they offer nothing.
 OFFERED = {
-    "compile IN": SOURCE, "cpp IN": SOURCE, "--preinclude": ANY, "check IN": ANY, "dtc input file": ANY,
+    "compile IN": SOURCE, "cpp IN": SOURCE, "fmt IN": SOURCE, "--preinclude": ANY, "check IN": ANY, "dtc input file": ANY,
     "IN": BLOB, "OUT": BLOB, "BASE": BLOB, "OVERLAY": BLOB, "BLOB": BLOB, "FIRST": BLOB, "SECOND": BLOB,
     "blob": BLOB, "file": BLOB, "overlay.dtbo": BLOB,
-    "dtc --out": ANY, "fdtoverlay --input": BLOB, "fdtoverlay --output": BLOB,
+    "compile --depfile": (".d",), "fmt --out": SOURCE, "dtc --out": ANY, "fdtoverlay --input": BLOB, "fdtoverlay --output": BLOB,
     "DRIVERS": (".drivers",), "PLAN": PLAN, "SCHEDULE": (".schedule",), "LOG": (".log",),
     "ALIASES": (".alias",), "MODINFO": (".modinfo",), "IMAGE": ANY, "FILE": (".known",),
-    "NUMBER": NUMBER, "DIR": FOLDER, "folder": FOLDER,
+    "who NUMBER": (), "NUMBER": NUMBER, "DIR": FOLDER, "folder": FOLDER,
 }
 
 

@@ -3,11 +3,13 @@
 use crate::labelling::labelled_bytes;
 use crate::performing::Answer;
 use crate::preprocessing::prepared;
-use dtman_engine::{dump_bytes, overlay_bytes};
+use dtman_engine::{Fault, dump_bytes, overlay_bytes};
 use dtman_host::{
-    Failure, Given, Host, Inputs, Made, Manner, Surroundings, dtc_made, file_of, profile_blob,
+    Failure, Given, Host, Inputs, Made, Manner, Surroundings, dependency_rule, dtc_made, file_of,
+    first_read, profile_blob,
 };
 use dtman_words::{Language, Preprocessing};
+use std::alloc::Global;
 
 /// How a source is to be compiled, and where its blob is to stand.
 #[derive(Drop)]
@@ -16,6 +18,8 @@ pub struct Compiling<'a> {
     pub symbols: bool,
     pub language: Language<'a>,
     pub preprocessing: Preprocessing<'a>,
+    /// Where the rule of make is to stand that names what was read.
+    pub depfile: Option<&'a str>,
 }
 
 /// The blob of a source, which goes through the preprocessor first where that is wanted.
@@ -25,12 +29,46 @@ pub fn compiled<'a, S: Surroundings, E: Eprint, T>(
     asked: &Compiling<'a>,
 ) -> Result<Answer<'a>, Failure<'a>> {
     let text = host.source(source)?;
-    let path = asked.out;
-    let bytes = match prepared(host, source, text.as_slice(), &asked.preprocessing)? {
-        Some(prepared) => preprocessed_blob(host, asked, file_of(source, &prepared))?,
-        None => blob_in(host, asked, file_of(source, &text))?,
+    let mut found = files_of(host.alloc, source)?;
+    let preprocessing = &asked.preprocessing;
+    let bytes = match prepared(host, source, text.as_slice(), preprocessing, &mut found)? {
+        Some(prepared) => preprocessed_blob(host, asked, file_of(source, &prepared), &mut found)?,
+        None => blob_in(host, asked, file_of(source, &text), &mut found)?,
     };
-    Ok(Answer::File { path, bytes })
+    answer_with(host.alloc, asked, bytes, found.as_slice())
+}
+
+// The files that were read, of which the source is the first; standard input is none.
+fn files_of(alloc: Global, source: &str) -> Result<Vec<Vec<u8>>, Failure<'static>> {
+    if source == "-" {
+        return Ok(Vec::new(alloc));
+    }
+    match first_read(alloc, source) {
+        Ok(files) => Ok(files),
+        Err(_) => Err(Failure::Refused(Fault::no_memory())),
+    }
+}
+
+// The blob, with the rule of make where that is asked for.
+fn answer_with<'a>(
+    alloc: Global,
+    asked: &Compiling<'a>,
+    bytes: Vec<u8>,
+    found: &[Vec<u8>],
+) -> Result<Answer<'a>, Failure<'a>> {
+    let path = asked.out;
+    let Some(depfile) = asked.depfile else {
+        return Ok(Answer::File { path, bytes });
+    };
+    match dependency_rule(alloc, path, found) {
+        Ok(rule) => Ok(Answer::Ruled {
+            depfile,
+            rule,
+            path,
+            bytes,
+        }),
+        Err(_) => Err(Failure::Refused(Fault::no_memory())),
+    }
 }
 
 // The blob of a source that was preprocessed, which is in dtc's language.
@@ -38,10 +76,13 @@ fn preprocessed_blob<'a, S: Surroundings, E: Eprint, T>(
     host: &mut Host<'_, S, E, T>,
     asked: &Compiling<'_>,
     text: Given<'_>,
+    found: &mut Vec<Vec<u8>>,
 ) -> Result<Vec<u8>, Failure<'a>> {
     match &asked.language {
-        Language::Profile => dtc_blob(host, asked.symbols, &[], text),
-        Language::Dtc { folders } => dtc_blob(host, asked.symbols, folders.as_slice(), text),
+        Language::Profile => dtc_blob(host, asked.symbols, &[], text, found),
+        Language::Dtc { folders } => {
+            dtc_blob(host, asked.symbols, folders.as_slice(), text, found)
+        }
     }
 }
 
@@ -50,6 +91,7 @@ fn blob_in<'a, S: Surroundings, E: Eprint, T>(
     host: &mut Host<'_, S, E, T>,
     asked: &Compiling<'_>,
     text: Given<'_>,
+    found: &mut Vec<Vec<u8>>,
 ) -> Result<Vec<u8>, Failure<'a>> {
     match &asked.language {
         Language::Profile => {
@@ -60,7 +102,9 @@ fn blob_in<'a, S: Surroundings, E: Eprint, T>(
             };
             profile_blob(host.alloc, hasher, text, manner)
         }
-        Language::Dtc { folders } => dtc_blob(host, asked.symbols, folders.as_slice(), text),
+        Language::Dtc { folders } => {
+            dtc_blob(host, asked.symbols, folders.as_slice(), text, found)
+        }
     }
 }
 
@@ -70,6 +114,7 @@ fn dtc_blob<'a, S: Surroundings, E: Eprint, T>(
     symbols: bool,
     folders: &[&str],
     text: Given<'_>,
+    found: &mut Vec<Vec<u8>>,
 ) -> Result<Vec<u8>, Failure<'a>> {
     let hasher = host.seed()?;
     let manner = Manner {
@@ -81,6 +126,7 @@ fn dtc_blob<'a, S: Surroundings, E: Eprint, T>(
         hasher,
         host.surroundings,
         folders,
+        found,
         text,
         manner,
     )?;

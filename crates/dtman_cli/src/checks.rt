@@ -187,7 +187,9 @@ fn source_made<'a, S: Surroundings, E: Eprint, T>(
     path: &'a str,
     bytes: &Vec<u8>,
 ) -> Result<Made, Failure<'a>> {
-    match prepared(host, path, bytes.as_slice(), &inspection.preprocessing)? {
+    let mut found = Vec::new(host.alloc);
+    let preprocessing = &inspection.preprocessing;
+    match prepared(host, path, bytes.as_slice(), preprocessing, &mut found)? {
         Some(prepared) => compiled(host, inspection, file_of(path, &prepared)),
         None => compiled(host, inspection, file_of(path, bytes)),
     }
@@ -203,11 +205,13 @@ fn compiled<'a, S: Surroundings, E: Eprint, T>(
         symbols: false,
         detail: host.detail,
     };
+    let mut found = Vec::new(host.alloc);
     dtc_made(
         host.alloc,
         hasher,
         host.surroundings,
         inspection.folders.as_slice(),
+        &mut found,
         source,
         manner,
     )

@@ -15,6 +15,7 @@ mod preprocessing;
 mod questions;
 mod running;
 mod tools;
+mod trees;
 
 pub use labelling::labelled_bytes;
 pub use running::{run, run_words};

@@ -1,6 +1,7 @@
 //! Commands that read and write nodes and values of blobs: `diff`, `get`, `ls`, `set`.
 
 use crate::performing::Answer;
+use crate::trees::path_in;
 use dt_blob::BlobError;
 use dt_blob::query::QueryError;
 use dtman_blobs::{
@@ -18,8 +19,8 @@ pub struct Asked<'a> {
     pub property: &'a str,
 }
 
-// No node has the path that the command line names, or the node hasn't the property.
-fn unknown_path() -> Fault {
+/// No node has the path that the command line names, or the node hasn't the property.
+pub fn unknown_path() -> Fault {
     Fault {
         number: 53,
         name: "UnknownPath",
@@ -145,9 +146,10 @@ pub fn valued<'a, S: Surroundings, E: Eprint, T>(
     let kind = kind_of(kind)?;
     let blob = host.blob(blob_path)?;
     let hasher = host.seed()?;
+    let place = path_in(host.alloc, blob.as_slice(), path)?;
     let answer = match property {
-        Some(name) => value_line(host.alloc, blob.as_slice(), path, name, kind),
-        None => node_text(host.alloc, hasher, blob.as_slice(), path),
+        Some(name) => value_line(host.alloc, blob.as_slice(), place.as_str(), name, kind),
+        None => node_text(host.alloc, hasher, blob.as_slice(), place.as_str()),
     };
     let asked = Asked {
         blob: blob_path,
@@ -156,7 +158,13 @@ pub fn valued<'a, S: Surroundings, E: Eprint, T>(
     };
     match answer {
         Ok(text) => Ok(Answer::Text(text)),
-        Err(AskError::Query(error)) => Err(unfound(host, file_of(blob_path, &blob), asked, error)),
+        Err(AskError::Query(error)) => {
+            let asked = Asked {
+                path: place.as_str(),
+                ..asked
+            };
+            Err(unfound(host, file_of(blob_path, &blob), asked, error))
+        }
         Err(error) => Err(unanswered(asked, error)),
     }
 }
@@ -174,9 +182,16 @@ pub fn listed<'a, S: Surroundings, E: Eprint, T>(
         path,
         property: path,
     };
-    match list_text(host.alloc, blob.as_slice(), path) {
+    let place = path_in(host.alloc, blob.as_slice(), path)?;
+    match list_text(host.alloc, blob.as_slice(), place.as_str()) {
         Ok(text) => Ok(Answer::Text(text)),
-        Err(AskError::Query(error)) => Err(unfound(host, file_of(blob_path, &blob), asked, error)),
+        Err(AskError::Query(error)) => {
+            let asked = Asked {
+                path: place.as_str(),
+                ..asked
+            };
+            Err(unfound(host, file_of(blob_path, &blob), asked, error))
+        }
         Err(error) => Err(unanswered(asked, error)),
     }
 }
@@ -192,11 +207,12 @@ pub fn changed<'a, S: Surroundings, E: Eprint, T>(
     let kind = kind_of(kind)?;
     let blob = host.blob(asked.blob)?;
     let hasher = host.seed()?;
+    let place = path_in(host.alloc, blob.as_slice(), asked.path)?;
     let made = set_bytes(
         host.alloc,
         hasher,
         blob.as_slice(),
-        asked.path,
+        place.as_str(),
         asked.property,
         kind,
         words,
@@ -206,7 +222,14 @@ pub fn changed<'a, S: Surroundings, E: Eprint, T>(
             path: out.unwrap_or(asked.blob),
             bytes,
         }),
-        Err(AskError::Query(error)) => Err(unfound(host, file_of(asked.blob, &blob), asked, error)),
+        Err(AskError::Query(error)) => {
+            let blob = file_of(asked.blob, &blob);
+            let asked = Asked {
+                path: place.as_str(),
+                ..asked
+            };
+            Err(unfound(host, blob, asked, error))
+        }
         Err(error) => Err(unanswered(asked, error)),
     }
 }

@@ -2,33 +2,27 @@
 
 use crate::performing::Answer;
 use dt_preprocess::{Headers, Refusal, Request, has_directive, preprocess};
-use dt_text::include::{Incomplete, Shortfall};
 use dtman_diagnosis::{Diagnosis, Location, Subject, copied};
-use dtman_engine::{Fault, MAX_BLOB_LEN, MAX_SOURCE_LEN, read_all};
-use dtman_host::{Detail, Failure, Host, Surroundings, named, refusal, shortfall_fault};
+use dtman_engine::{Fault, MAX_SOURCE_LEN};
+use dtman_host::{Detail, Failure, Host, Sought, Surroundings, file_at, named, refusal};
 use dtman_words::{Choice, Definitions, Preprocessing};
 use std::alloc::{AllocError, Global};
 use std::hash::RandomState;
-use std::str;
-
-/// What is told of a source that is too long.
-const TOO_LONG: Shortfall = Shortfall {
-    reason: Incomplete::TooLong,
-    site: None,
-};
 
 /// The text that the preprocessor makes of a source, or nothing where it isn't wanted: a text that was cut, as it is too long for a
-/// source, isn't either.
+/// source, isn't either. The paths of the headers that are read are added to those that were found.
 pub fn prepared<'a, S: Surroundings, E: Eprint, T>(
     host: &mut Host<'_, S, E, T>,
     path: &'a str,
     text: &[u8],
     preprocessing: &Preprocessing<'_>,
+    found: &mut Vec<Vec<u8>>,
 ) -> Result<Option<Vec<u8>>, Failure<'a>> {
     if text.len() > MAX_SOURCE_LEN || !is_wanted(preprocessing, text) {
         return Ok(None);
     }
-    Ok(Some(preprocessed(host, path, text, &preprocessing.definitions)?))
+    let definitions = &preprocessing.definitions;
+    Ok(Some(preprocessed(host, path, text, definitions, found)?))
 }
 
 /// What the preprocessor makes of a source, for standard output.
@@ -37,11 +31,10 @@ pub fn printed<'a, S: Surroundings, E: Eprint, T>(
     path: &'a str,
     definitions: &Definitions<'_>,
 ) -> Result<Answer<'a>, Failure<'a>> {
-    let text = host.source(path)?;
-    if text.len() > MAX_SOURCE_LEN {
-        return Err(Failure::Refused(shortfall_fault(&TOO_LONG)));
-    }
-    Ok(Answer::Text(preprocessed(host, path, text.as_slice(), definitions)?))
+    let text = host.whole_source(path)?;
+    let mut found = Vec::new(host.alloc);
+    let made = preprocessed(host, path, text.as_slice(), definitions, &mut found)?;
+    Ok(Answer::Text(made))
 }
 
 fn is_wanted(preprocessing: &Preprocessing<'_>, text: &[u8]) -> bool {
@@ -63,6 +56,7 @@ fn preprocessed<'a, S: Surroundings, E: Eprint, T>(
     path: &'a str,
     text: &[u8],
     definitions: &Definitions<'_>,
+    found: &mut Vec<Vec<u8>>,
 ) -> Result<Vec<u8>, Failure<'a>> {
     let hasher = host.seed()?;
     let request = Request {
@@ -72,7 +66,7 @@ fn preprocessed<'a, S: Surroundings, E: Eprint, T>(
         defines: definitions.defines.as_slice(),
         preincluded: definitions.preincluded.as_slice(),
     };
-    match text_of(host.alloc, hasher, host.surroundings, &request) {
+    match text_of(host.alloc, hasher, host.surroundings, found, &request) {
         Ok(text) => Ok(text),
         Err(refused) => Err(told(host, path, text, refused)),
     }
@@ -82,10 +76,12 @@ fn text_of<S: Surroundings>(
     alloc: Global,
     hasher: RandomState,
     surroundings: &mut S,
+    found: &mut Vec<Vec<u8>>,
     request: &Request<'_>,
 ) -> Result<Vec<u8>, Refusal> {
     let mut files = Opened {
         surroundings,
+        found,
         is_broken: false,
     };
     match preprocess(alloc, hasher, &mut files, request) {
@@ -97,6 +93,8 @@ fn text_of<S: Surroundings>(
 /// The files of the surroundings.
 struct Opened<'s, S> {
     surroundings: &'s mut S,
+    /// The paths of the headers that were read.
+    found: &'s mut Vec<Vec<u8>>,
     /// A header was there and couldn't be read to its end: no other is taken in its place.
     is_broken: bool,
 }
@@ -107,7 +105,10 @@ impl<S: Surroundings> Headers for Opened<'_, S> {
             return Ok(None);
         }
         match file_at(alloc, self.surroundings, path)? {
-            Sought::Read(bytes) => Ok(Some(bytes)),
+            Sought::Read(bytes) => {
+                self.found.push(copied(alloc, path)?)?;
+                Ok(Some(bytes))
+            }
             Sought::Missing => Ok(None),
             Sought::Broken => {
                 self.is_broken = true;
@@ -121,35 +122,9 @@ impl<S> Drop for Opened<'_, S> {
     fn drop(self) {
         let Opened {
             surroundings: _,
+            found: _,
             is_broken: _,
         } = self;
-    }
-}
-
-/// What is found where a header is looked for.
-#[derive(Drop)]
-enum Sought {
-    Read(Vec<u8>),
-    Missing,
-    /// It is there, and can't be read to its end.
-    Broken,
-}
-
-fn file_at<S: Surroundings>(
-    alloc: Global,
-    surroundings: &mut S,
-    path: &[u8],
-) -> Result<Sought, AllocError> {
-    let Ok(path) = str::from_utf8(path) else {
-        return Ok(Sought::Missing);
-    };
-    let Ok(mut file) = surroundings.open(path) else {
-        return Ok(Sought::Missing);
-    };
-    match read_all(alloc, &mut file, MAX_BLOB_LEN) {
-        Ok(bytes) => Ok(Sought::Read(bytes)),
-        Err(fault) if fault.number == 0 => Err(AllocError),
-        Err(_) => Ok(Sought::Broken),
     }
 }
 

@@ -93,7 +93,8 @@ fn arguments<R: Env + AllocGlobal>(rt: &R) -> io::Result<Vec<String>> {
 /// Runs the command that the words name, over any files and any standard output, and answers the exit status.
 ///
 /// Where that isn't 0, nothing was written to standard output, unless that is what failed, or a command has listed what should not be
-/// there, or `fdtget` what it found first. The words `-v`, `--verbose` and `--json` ask for detail, before or behind the others. Where the
+/// there, or `fdtget` what it found first, or an editor's session ended early, or a file couldn't be written whose rule of make stands
+/// there. The words `-v`, `--verbose` and `--json` ask for detail, before or behind the others. Where the
 /// program's name or its first word is one of dtc's package (`dtc`, `fdtoverlay`, `fdtget`, `fdtput`, `fdtdump`), it does what that does.
 pub fn run_words<S: Surroundings, O: Channel, E: Eprint, T: Threads + Sync>(
     alloc: Global,

@@ -9,7 +9,10 @@ use crate::forming::judged_output;
 use crate::reports::{Failure, fail};
 use crate::taking::{Input, take};
 use dtman_engine::Channel;
-use dtman_host::{DONE, DTC_VERSION, Host, Surroundings, named, put_at, write_in_place};
+use dtman_host::{
+    DONE, DTC_VERSION, Host, Surroundings, dependency_rule, first_read, named, put_at,
+    write_in_place,
+};
 use dtman_words::dtc_options::{
     Asked, Format, Options, Output, format_of, output_named, read_words,
 };
@@ -116,7 +119,7 @@ fn converted<'a, S: Surroundings, E: Eprint, T>(
         Some(to) => to,
         None => output_named(options.output, given.from).map_err(Failure::Word)?,
     };
-    let mut found = Vec::new(host.alloc);
+    let mut found = first_read(host.alloc, named(options.input))?;
     let bytes = output_of(host, options, given, to, &mut found)?;
     put_found(host, options, found.as_slice())?;
     Ok(bytes)
@@ -185,15 +188,8 @@ fn put_dependencies<'a, S: Surroundings, E: Eprint, T>(
     path: &'a str,
     found: &[Vec<u8>],
 ) -> Result<(), Failure<'a>> {
-    let mut line = Vec::from_slice(host.alloc, options.output.as_bytes())?;
-    line.extend_from_slice(b": ")?;
-    line.extend_from_slice(named(options.input).as_bytes())?;
-    for file in found {
-        line.extend_from_slice(b" ")?;
-        line.extend_from_slice(file.as_slice())?;
-    }
-    line.extend_from_slice(b"\n")?;
-    match write_in_place(host.surroundings, path, line.as_slice()) {
+    let rule = dependency_rule(host.alloc, options.output, found)?;
+    match write_in_place(host.surroundings, path, rule.as_slice()) {
         Ok(()) => Ok(()),
         Err(_) => Err(Failure::NoOutput(path)),
     }

@@ -1,4 +1,5 @@
 pub mod BoardBlob
+pub mod Dependencies
 pub mod Outcome
 pub mod Shortfall
 pub mod SourceFiles

@@ -72,29 +72,21 @@ impl Board {
     }
 }
 
-/// The blob of a source in dtc's language, which takes in files beside it and in folders.
+/// The blob of a source in dtc's language, which takes in files beside it and in folders. The paths of those that are read are added.
 pub fn dtc_made<'a, S: Surroundings>(
     alloc: Global,
     hasher: RandomState,
     surroundings: &mut S,
     folders: &[&str],
+    found: &mut Vec<Vec<u8>>,
     source: Given<'_>,
     manner: Manner,
 ) -> Result<Made, Failure<'a>> {
-    let mut found = Vec::new(alloc);
     let options = DtcOptions {
         symbols: manner.symbols,
         boot_processor: None,
     };
-    let outcome = compile_in(
-        alloc,
-        hasher,
-        surroundings,
-        folders,
-        &mut found,
-        source,
-        options,
-    );
+    let outcome = compile_in(alloc, hasher, surroundings, folders, found, source, options);
     made_of(alloc, hasher, plain(source.name), manner, outcome)
 }
 

@@ -1,5 +1,5 @@
 //! Files, standard output and the random seed, each with the fault that tells it.
-ghost use Rattle.std.specs.Prelude.{◌≡◌, ◌<◌, ◌^◌, false};
+ghost use Rattle.std.specs.Prelude.{◌≡◌, ◌<◌, ◌^◌, false, OnOk};
 
 use crate::beside::Beside;
 use crate::failure::Failure;
@@ -47,6 +47,7 @@ pub fn write_at<'a, S: Surroundings, O: Channel>(
     bytes: &[u8],
 ) -> Result<(), Failure<'a>>
     requires { O.has_failed output.old ≡ false }
+    ensures { OnOk result (O.has_failed output.new ≡ false) }
 {
     if path == STANDARD {
         return print(output, bytes);
@@ -154,6 +155,7 @@ pub fn seed<S: Surroundings>(surroundings: &mut S) -> Result<RandomState, Failur
 /// Writes an answer to standard output, once all of it is there.
 pub fn print<O: Channel>(output: &mut O, text: &[u8]) -> Result<(), Failure<'static>>
     requires { O.has_failed output.old ≡ false }
+    ensures { OnOk result (O.has_failed output.new ≡ false) }
 {
     write_out(output, text).map_err(|fault| unwritten(OUTPUT, fault.why))
 }

@@ -5,9 +5,10 @@ ghost use Rattle.dtman_host.specs.Outcome.{IsOutcome};
 
 use crate::diagnosing::Given;
 use crate::outcome::{Outcome, compile_dtc};
+use crate::seeking::{Sought, file_at};
 use crate::surroundings::Surroundings;
 use dt_text::include::{Files, Found, Reads, search};
-use dtman_engine::{DtcOptions, MAX_BLOB_LEN, read_all};
+use dtman_engine::DtcOptions;
 use std::alloc::{AllocError, Global};
 use std::hash::RandomState;
 
@@ -79,16 +80,13 @@ impl<S: Surroundings> Reads for Folders<'_, S> {
         if self.is_broken {
             return Ok(None);
         }
-        let Ok(mut file) = self.surroundings.open(path) else {
-            return Ok(None);
-        };
-        match read_all(alloc, &mut file, MAX_BLOB_LEN) {
-            Ok(bytes) => {
+        match file_at(alloc, self.surroundings, path.as_bytes())? {
+            Sought::Read(bytes) => {
                 self.found.push(Vec::from_slice(alloc, path.as_bytes())?)?;
                 Ok(Some(bytes))
             }
-            Err(fault) if fault.number == 0 => Err(AllocError),
-            Err(_) => {
+            Sought::Missing => Ok(None),
+            Sought::Broken => {
                 self.is_broken = true;
                 Ok(None)
             }

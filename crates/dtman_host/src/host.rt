@@ -7,6 +7,7 @@ use crate::detail::{Detail, told};
 use crate::diagnosing::{Inputs, blob_fault};
 use crate::failure::Failure;
 use crate::files::{read_at, seed, text_at};
+use crate::shortfalls::{TOO_LONG, shortfall_fault};
 use crate::surroundings::Surroundings;
 use bus_kernel::unpacking::{MAX_IMAGE_LEN, unpacked_image};
 use dt_blob::BlobError;
@@ -35,6 +36,15 @@ impl<S: Surroundings, E: Eprint, T> Host<'_, S, E, T> {
     /// The text of a source.
     pub fn source<'a>(&mut self, path: &'a str) -> Result<Vec<u8>, Failure<'a>> {
         read_at(self.alloc, self.surroundings, path, MAX_SOURCE_LEN)
+    }
+
+    /// The same of one that has all of its bytes: a longer one than sources may be is refused.
+    pub fn whole_source<'a>(&mut self, path: &'a str) -> Result<Vec<u8>, Failure<'a>> {
+        let text = self.source(path)?;
+        if text.len() > MAX_SOURCE_LEN {
+            return Err(Failure::Refused(shortfall_fault(&TOO_LONG)));
+        }
+        Ok(text)
     }
 
     /// A kernel's image, unpacked.

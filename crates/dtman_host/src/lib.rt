@@ -3,6 +3,7 @@
 
 mod beside;
 mod compiling;
+mod dependencies;
 mod detail;
 mod diagnosing;
 mod failure;
@@ -14,6 +15,7 @@ mod near;
 mod noted;
 mod outcome;
 mod package;
+mod seeking;
 mod shortfalls;
 mod status;
 mod surroundings;
@@ -21,6 +23,7 @@ mod user_places;
 
 pub use beside::Beside;
 pub use compiling::{Board, Made, Manner, dtc_made, profile_blob};
+pub use dependencies::{dependency_rule, first_read};
 pub use detail::{Detail, asked_for, refusal};
 pub use diagnosing::{Given, Inputs, Planned, file_of};
 pub use failure::{Failure, fail};
@@ -32,6 +35,7 @@ pub use near::no_such;
 pub use noted::Noted;
 pub use outcome::{Outcome, compile_dtc};
 pub use package::DTC_VERSION;
+pub use seeking::{Sought, file_at};
 pub use shortfalls::shortfall_fault;
 pub use status::{COMMAND_LINE, DONE, FILE, REFUSED};
 pub use surroundings::{Entry, EntryKind, Surroundings, System};

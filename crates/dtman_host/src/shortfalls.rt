@@ -12,6 +12,12 @@ use dtman_diagnosis::{Diagnosis, Location, Note, Subject, copied, json_of, text_
 use dtman_engine::{Fault, Position};
 use std::alloc::{AllocError, Global};
 
+/// What is told of a source that is too long.
+pub(crate) const TOO_LONG: Shortfall = Shortfall {
+    reason: Incomplete::TooLong,
+    site: None,
+};
+
 /// What is told of a text of this file that isn't whole.
 pub fn fallen_short<'a>(
     alloc: Global,

@@ -6,11 +6,12 @@ use Rattle.std.specs.Str.Parse.{IsNumeral, digits_value, without_leading_plus}
 use Rattle.bus_manager.specs.Workers.{most_workers}
 use Rattle.clap.specs.Words.{Row, Text, all_of, count_of, first_of, one_of, subcommand_of}
 use Rattle.dtman_words.specs.declared.subcommand.Command.{Command}
-use Rattle.dtman_words.specs.declared.subcommand.Command.TheVariants.{Compile, Preprocess, Overlay, Dump, Plan, Replay, Probe, Why, Needs, Drivers, Trace, Check, Diff, Get, Listing, Set, Explain}
+use Rattle.dtman_words.specs.declared.subcommand.Command.TheVariants.{Compile, Preprocess, Overlay, Dump, Plan, Replay, Probe, Why, Needs, Drivers, Trace, Find, Who, Check, Diff, Get, Listing, Set, Format, Serve, Explain}
 use Rattle.dtman_words.specs.declared.subcommand.Board.{Board}
 use Rattle.dtman_words.specs.declared.subcommand.Choice.{Choice}
 use Rattle.dtman_words.specs.declared.subcommand.Choice.TheVariants.{AsNeeded, Always, Never}
 use Rattle.dtman_words.specs.declared.subcommand.Definitions.{Definitions}
+use Rattle.dtman_words.specs.declared.subcommand.Formatting.{Formatting}
 use Rattle.dtman_words.specs.declared.subcommand.Inspection.{Inspection}
 use Rattle.dtman_words.specs.declared.subcommand.Links.{Links}
 use Rattle.dtman_words.specs.declared.subcommand.Picture.{Picture}
@@ -99,11 +100,18 @@ IsInspection inspection rows =
     × (inspection.quiet ≡ count_of (codes "quiet") rows)
     × (inspection.json ≡ is_on (first_of (codes "json") rows)) × (inspection.learn ≡ is_on (first_of (codes "learn") rows))
 
+-- how a source is to be laid out, and what becomes of it
+abbrev pub IsFormatting : Formatting → List Row → Type 0
+IsFormatting formatting rows =
+    (first_of (codes "IN") rows ≡ Some formatting.source.now)
+    × (formatting.check ≡ is_on (first_of (codes "check") rows)) × (formatting.diff ≡ is_on (first_of (codes "diff") rows))
+    × (formatting.hex ≡ is_on (first_of (codes "hex") rows)) × IsText formatting.out (codes "out") rows
+
 -- the subcommand that was met, with the values of its arguments
 abbrev pub IsMet : Command → Text → List Row → Type 0
-IsMet (Compile source out symbols language preprocessing) name rows =
+IsMet (Compile source out symbols language preprocessing depfile) name rows =
     (name ≡ codes "compile") × (first_of (codes "IN") rows ≡ Some source.now) × (first_of (codes "OUT") rows ≡ Some out.now) × (symbols ≡ is_on (first_of (codes "symbols") rows))
-    × IsLanguage language rows × IsPreprocessing preprocessing rows
+    × IsLanguage language rows × IsPreprocessing preprocessing rows × IsText depfile (codes "depfile") rows
 IsMet (Preprocess source definitions) name rows =
     (name ≡ codes "cpp") × (first_of (codes "IN") rows ≡ Some source.now) × AreDefinitions definitions rows
 IsMet (Overlay base overlay out) name rows =
@@ -124,6 +132,11 @@ IsMet (Trace log plan) name rows =
 IsMet (Replay plan schedule workers) name rows =
     (name ≡ codes "replay") × (first_of (codes "PLAN") rows ≡ Some plan.now) × (first_of (codes "SCHEDULE") rows ≡ Some schedule.now)
     × AreAsked workers rows
+IsMet (Find blob what) name rows =
+    (name ≡ codes "find") × (first_of (codes "BLOB") rows ≡ Some blob.now) × (first_of (codes "WHAT") rows ≡ Some what.now)
+IsMet (Who blob path number) name rows =
+    (name ≡ codes "who") × (first_of (codes "BLOB") rows ≡ Some blob.now) × (first_of (codes "PATH") rows ≡ Some path.now)
+    × IsText number (codes "NUMBER") rows
 IsMet (Check inspection) name rows = (name ≡ codes "check") × IsInspection inspection rows
 IsMet (Diff first second order) name rows =
     (name ≡ codes "diff") × (first_of (codes "FIRST") rows ≡ Some first.now) × (first_of (codes "SECOND") rows ≡ Some second.now)
@@ -136,6 +149,9 @@ IsMet (Set blob path property values kind out) name rows =
     (name ≡ codes "set") × (first_of (codes "BLOB") rows ≡ Some blob.now) × (first_of (codes "PATH") rows ≡ Some path.now)
     × (first_of (codes "PROPERTY") rows ≡ Some property.now) × (map (λ word. word.now) values.items ≡ texts_of (codes "VALUE") rows)
     × IsText kind (codes "type") rows × IsText out (codes "out") rows
+IsMet (Format formatting) name rows = (name ≡ codes "fmt") × IsFormatting formatting rows
+IsMet (Serve folders) name rows =
+    (name ≡ codes "lsp") × (map (λ folder. folder.now) folders.items ≡ texts_of (codes "include") rows)
 IsMet (Explain number) name rows = (name ≡ codes "explain") × (unwrap_or (first_of (codes "NUMBER") rows) (codes "all") ≡ number.now)
 
 pub record Meets (command : Command) (met : Option (Text × List Row)) : Type 0 where

@@ -66,10 +66,12 @@ with_preprocessing app = with_rule (with_rule (with_definitions app) (flag (code
 
 abbrev pub compile : App
 compile =
-    with_preprocessing
+    with_rule
+    (with_preprocessing
     (with_rule
     (with_rule (with_rule (with_rule (with_rule (new_app (codes "compile")) (required (codes "IN"))) (required (codes "OUT"))) (flag (codes "symbols"))) (flag (codes "dtc")))
-    (repeated (codes "include") 105))
+    (repeated (codes "include") 105)))
+    (asked_text (codes "depfile"))
 
 abbrev pub preprocess : App
 preprocess = with_definitions (with_rule (new_app (codes "cpp")) (required (codes "IN")))
@@ -133,6 +135,12 @@ with_selection app = with_rule (with_rule app (listed (codes "warning") 87)) (li
 abbrev pub with_telling : App → App
 with_telling app = with_rule (with_rule app (counted (codes "quiet") 113)) (flag (codes "json"))
 
+abbrev pub find : App
+find = with_rule (with_rule (new_app (codes "find")) (required (codes "BLOB"))) (required (codes "WHAT"))
+
+abbrev pub who : App
+who = with_rule (with_rule (with_rule (new_app (codes "who")) (required (codes "BLOB"))) (required (codes "PATH"))) (optional (codes "NUMBER"))
+
 abbrev pub check : App
 check =
     with_preprocessing
@@ -161,6 +169,15 @@ set =
     (lettered (codes "type") 116))
     (lettered (codes "out") 111)
 
+abbrev pub format : App
+format =
+    with_rule
+    (with_rule (with_rule (with_rule (with_rule (new_app (codes "fmt")) (required (codes "IN"))) (flag (codes "hex"))) (flag (codes "check"))) (flag (codes "diff")))
+    (lettered (codes "out") 111)
+
+abbrev pub serve : App
+serve = with_rule (new_app (codes "lsp")) (listed (codes "include") 73)
+
 abbrev pub explain : App
 explain = with_rule (new_app (codes "explain")) (optional (codes "NUMBER"))
 
@@ -172,14 +189,24 @@ top = let a = new_app (codes "dtman") in record a { top = record a.top { has_ver
 abbrev pub with_questions : App → App
 with_questions app = with_subcommand (with_subcommand (with_subcommand (with_subcommand app why.top) needs.top) drivers.top) trace.top
 
+-- those of the boards' trees
+abbrev pub with_trees : App → App
+with_trees app = with_subcommand (with_subcommand app find.top) who.top
+
 -- those of the mistakes, the nodes and the values of blobs
 abbrev pub with_blobs : App → App
 with_blobs app = with_subcommand (with_subcommand (with_subcommand (with_subcommand (with_subcommand app check.top) diff.top) get.top) list.top) set.top
 
+-- those of an author's own files
+abbrev pub with_authors : App → App
+with_authors app = with_subcommand (with_subcommand app format.top) serve.top
+
 unfoldable pub dtman : App
 dtman =
     with_subcommand
+    (with_authors
     (with_blobs
+    (with_trees
     (with_questions
-    (with_subcommand (with_subcommand (with_subcommand (with_subcommand (with_subcommand (with_subcommand (with_subcommand top compile.top) preprocess.top) overlay.top) dump.top) plan.top) replay.top) probe.top)))
+    (with_subcommand (with_subcommand (with_subcommand (with_subcommand (with_subcommand (with_subcommand (with_subcommand top compile.top) preprocess.top) overlay.top) dump.top) plan.top) replay.top) probe.top)))))
     explain.top

@@ -5,13 +5,18 @@ ghost use Rattle.clap.specs.declared.builder.command.Command.TheViews.{out-Comma
 ghost use Rattle.dtman_words.specs.Grammar as spec;
 ghost use Rattle.dtman_words.specs.Making.{Makes};
 
+mod authors;
+mod trees;
+
 use crate::arguments::{
     again, asked_number, asked_text, beside, counted, flag, lettered, listed, number, optional,
     others, repeated, required, several,
 };
+use authors::add_authors;
 use bus_manager::MAX_WORKERS;
 use clap::{Arg, Command};
 use std::alloc::{AllocError, Global};
+use trees::add_trees;
 
 /// What `--help` says behind the commands.
 const STATUSES: &str = "\
@@ -64,7 +69,9 @@ pub fn grammar<'a>(alloc: Global) -> Result<Command<'a>, AllocError>
     let app = add_subcommand(app, replay(alloc));
     let app = add_subcommand(app, probe(alloc));
     let app = add_questions(alloc, app);
+    let app = add_trees(alloc, app);
     let app = add_blobs(alloc, app);
+    let app = add_authors(alloc, app);
     add_subcommand(app, explain(alloc))
 }
 
@@ -231,13 +238,14 @@ fn compile<'a>(alloc: Global) -> Result<Command<'a>, AllocError>
     let symbols = "Adds the paths of all labelled nodes";
     let dtc = "Takes a source in dtc's language";
     let folder = "Looks there, too, for what the source takes in";
+    let depfile = "Writes which files were read, as a rule for make";
     let include = repeated(alloc, "include", 'i', "DIR", "dtc", folder)?;
     let command = named(alloc, "compile", about).arg(required(alloc, "IN", "The source"));
     let command = add_argument(command, required(alloc, "OUT", out));
     let command = add_argument(command, flag(alloc, "symbols", symbols));
     let command = add_argument(command, flag(alloc, "dtc", dtc));
-    let command = add_argument(command, include);
-    add_preprocessing(alloc, command)
+    let command = add_preprocessing(alloc, add_argument(command, include));
+    add_argument(command, asked_text(alloc, "depfile", "FILE", depfile))
 }
 
 fn preprocess<'a>(alloc: Global) -> Result<Command<'a>, AllocError>

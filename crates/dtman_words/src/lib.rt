@@ -12,5 +12,6 @@ mod subcommand;
 
 pub use reading::command;
 pub use subcommand::{
-    Board, Choice, Command, Definitions, Inspection, Language, Links, Picture, Preprocessing,
+    Board, Choice, Command, Definitions, Formatting, Inspection, Language, Links, Picture,
+    Preprocessing,
 };

@@ -5,14 +5,19 @@ ghost use Rattle.clap.specs.Simple.{subcommand_rows_of};
 ghost use Rattle.dtman_words.specs.Grammar.{dtman};
 ghost use Rattle.dtman_words.specs.CommandLine.{AreAsked, AreDefinitions, AreWorkers, IsBoard, IsChoice, IsInspection, IsMet, IsLanguage, IsLinks, IsPicture, IsPreprocessing, IsText, Meets, Says, is_on, texts_of};
 
+mod authors;
+mod trees;
+
 use crate::grammar::grammar;
 use crate::subcommand::{
     Board, Choice, Command, Definitions, Inspection, Language, Links, Picture, Preprocessing,
 };
+use authors::{format, serve};
 use bus_manager::MAX_WORKERS;
 use clap::error::ErrorKind;
 use clap::{ArgMatches, Error};
 use std::alloc::{AllocError, Global};
+use trees::{find, who};
 
 /// Reads the words of a command line, of which the first is the program's name.
 pub fn command<'a>(alloc: Global, words: &'a [&'a str]) -> Result<Command<'a>, Error>
@@ -65,11 +70,15 @@ fn chosen<'a>(alloc: Global, matches: &ArgMatches<'a>) -> Result<Option<Command<
         "needs" => Ok(needs(given)),
         "drivers" => Ok(drivers(given)),
         "trace" => Ok(trace(given)),
+        "find" => Ok(find(given)),
+        "who" => Ok(who(given)),
         "check" => check(alloc, given),
         "diff" => Ok(diff(given)),
         "get" => Ok(get(given)),
         "ls" => Ok(list(given)),
         "set" => set(alloc, given),
+        "fmt" => Ok(format(given)),
+        "lsp" => serve(alloc, given),
         "explain" => Ok(Some(explain(given))),
         _ => Ok(None),
     }
@@ -98,6 +107,7 @@ fn compile_by<'a>(
         symbols: is_on(given, "symbols"),
         language,
         preprocessing,
+        depfile: text(given, "depfile"),
     })
 }
 

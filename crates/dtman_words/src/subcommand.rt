@@ -84,6 +84,20 @@ pub struct Inspection<'a> {
     pub learn: bool,
 }
 
+/// How a source is laid out, and what becomes of it: where nothing is said, it is printed.
+#[derive(Clone, Copy)]
+pub struct Formatting<'a> {
+    pub source: &'a str,
+    /// Says alone whether the source is laid out so already.
+    pub check: bool,
+    /// Prints the lines that differ.
+    pub diff: bool,
+    /// Hex numbers are spelled in lower case.
+    pub hex: bool,
+    /// Where it is written, in place of being printed.
+    pub out: Option<&'a str>,
+}
+
 /// A subcommand with its paths and options.
 #[derive(Drop)]
 pub enum Command<'a> {
@@ -94,6 +108,8 @@ pub enum Command<'a> {
         symbols: bool,
         language: Language<'a>,
         preprocessing: Preprocessing<'a>,
+        /// Where the rule of make is written that names all files which were read.
+        depfile: Option<&'a str>,
     },
     Preprocess {
         source: &'a str,
@@ -147,8 +163,28 @@ pub enum Command<'a> {
         log: &'a str,
         plan: &'a str,
     },
+    Find {
+        blob: &'a str,
+        /// A compatible string, a property, or a property with a value.
+        what: &'a str,
+    },
+    Who {
+        blob: &'a str,
+        /// The node, or an alias of it.
+        path: &'a str,
+        /// The line that is asked for, or else all.
+        number: Option<&'a str>,
+    },
     Check {
         inspection: Inspection<'a>,
+    },
+    Format {
+        formatting: Formatting<'a>,
+    },
+    /// A language server over standard input and output.
+    Serve {
+        /// Where included files are looked for.
+        folders: Vec<&'a str>,
     },
     Diff {
         first: &'a str,

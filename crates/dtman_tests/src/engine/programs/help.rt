@@ -42,6 +42,10 @@ fn help_fits_80_columns(rt: HostRuntime) {
         &["dtman", "get", "--help"],
         &["dtman", "ls", "--help"],
         &["dtman", "set", "--help"],
+        &["dtman", "find", "--help"],
+        &["dtman", "who", "--help"],
+        &["dtman", "fmt", "--help"],
+        &["dtman", "lsp", "--help"],
         &["dtman", "explain", "--help"],
     ];
     let hasher = RandomState::new(&rt).expect(&rt, "a seed");

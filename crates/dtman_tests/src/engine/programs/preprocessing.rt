@@ -21,6 +21,11 @@ const FILES: Files = &[
     ("bad.dts", b"/dts-v1/;\n#define N 4x\n/ { a = <N>; };\n"),
     ("plain.dts", b"/dts-v1/; / { };"),
     ("once.dts", b"/dts-v1/;\n#pragma once\n/ { };\n"),
+    (
+        "my board.dts",
+        b"/dts-v1/;\n#include \"root.h\"\n#include \"root.h\"\nROOT;\n/include/ \"none.dtsi\"\n",
+    ),
+    ("none.dtsi", b""),
 ];
 
 const LOST: &str =
@@ -99,6 +104,90 @@ const COMPILED: &[Writing] = &[
 #[test]
 fn preprocesses_what_it_compiles(rt: HostRuntime) {
     rows_write(&rt, FILES, COMPILED);
+}
+
+/// The rule names what is made, and each file that was read: those of the preprocessor in the order in which they were opened, and then
+/// those that dtc's language takes in.
+#[test]
+fn names_what_it_read(rt: HostRuntime) {
+    const ROWS: &[Row] = &[
+        (
+            &["dtman", "compile", "plain.dts", "out", "--depfile", "-"],
+            0,
+            "out: plain.dts\n",
+            "",
+        ),
+        (
+            &["dtman", "compile", "board.dts", "a b", "--depfile", "-"],
+            0,
+            "a\\ b: board.dts root.h\n",
+            "",
+        ),
+        (
+            &["dtman", "compile", "my board.dts", "out", "--depfile", "-"],
+            0,
+            "out: my\\ board.dts root.h none.dtsi\n",
+            "",
+        ),
+        (
+            &[
+                "dtman",
+                "compile",
+                "far.dts",
+                "out",
+                "-I",
+                "in",
+                "--depfile",
+                "-",
+            ],
+            0,
+            "out: far.dts in/far.h\n",
+            "",
+        ),
+    ];
+    rows_end(&rt, FILES, ROWS);
+}
+
+/// Where the rule can't be written, there is no blob, and no rule of a source that is refused.
+#[test]
+fn writes_no_blob_without_its_rule(rt: HostRuntime) {
+    const ROWS: &[Writing] = &[
+        (
+            &[
+                "dtman",
+                "compile",
+                "far.dts",
+                "out",
+                "-I",
+                "in",
+                "--depfile",
+                "rule",
+            ],
+            0,
+            "",
+            BLOB,
+        ),
+        (
+            &[
+                "dtman",
+                "compile",
+                "plain.dts",
+                "out",
+                "--depfile",
+                "locked",
+            ],
+            3,
+            "error 81 CannotWrite locked\n",
+            b"",
+        ),
+        (
+            &["dtman", "compile", "lost.dts", "out", "--depfile", "rule"],
+            1,
+            LOST,
+            b"",
+        ),
+    ];
+    rows_write(&rt, FILES, ROWS);
 }
 
 #[test]

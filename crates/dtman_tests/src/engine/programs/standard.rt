@@ -106,6 +106,19 @@ fn reads_and_writes_what_a_dash_stands_for(rt: HostRuntime) {
     }
 }
 
+/// The rule of make comes first, and standard input is no file that it names.
+#[test]
+fn names_no_standard_input(rt: HostRuntime) {
+    let hasher = RandomState::new(&rt).expect(&rt, "a seed");
+    let mut shelf = Shelf::new(rt.alloc(), FILES, hasher);
+    shelf.input = SOURCE;
+    let words = ["dtman", "compile", "-", "-", "--depfile", "rule"];
+    let traces = run_over(&rt, words.as_slice(), &mut shelf, None);
+    assert_eq!(rt; traces.status, 0);
+    assert_eq!(rt; traces.output.as_slice(), BLOB);
+    assert!(rt; shelf.has_written("rule", b"-:\n"));
+}
+
 /// That a run with something on standard input is refused in this way.
 fn is_refused<R: AllocGlobal + Threads + Sync + Abort>(
     rt: &R,
