@@ -26,6 +26,7 @@ BASE = b"/dts-v1/; / { ocp: ocp { }; };"
 OVERLAY = b"/dts-v1/; /plugin/; &ocp { d { r = <&e>; }; e: e { }; };"
 DTC_SOURCE = b'/dts-v1/; / { b = <\'B\'>; c = /incbin/("drivers", 1, 6); /omit-if-no-ref/ a: a { }; };'
 CLOCK = b'/dts-v1/; / { clk: clk { compatible = "fixed-clock"; #clock-cells = <0>; }; uart { compatible = "ns16550a"; clocks = <&clk>; }; };'
+BOARD = b'/dts-v1/; /memreserve/ 0x1000 0x1000; / { uart@10000 { reg = <0 0x10000 0x1000>; }; };'
 DRIVERS = b"driver fixed fixed-clock\ndriver ns ns16550a\n"
 SCHEDULE = b"begin /uart\nbegin /clk\nfinish /clk settled\nfinish /uart missing /clk\n"
 
@@ -169,7 +170,7 @@ def inputs_of(room, filling):
     clock = blob_of(CLOCK + value)
     made = {"base.dts": more + BASE, "overlay.dts": more + OVERLAY, "wrong.dts": more + b"/dts-v1/; / {",
             "dtc.dts": more + DTC_SOURCE, "drivers": comment + DRIVERS,
-            "base.dtb": blob_of(BASE + value, "--symbols"), "overlay.dtb": blob_of(OVERLAY + value), "clock.dtb": clock, "schedule": comment + SCHEDULE}
+            "base.dtb": blob_of(BASE + value, "--symbols"), "overlay.dtb": blob_of(OVERLAY + value), "clock.dtb": clock, "board.dtb": blob_of(BOARD + value), "schedule": comment + SCHEDULE}
     for name, data in made.items():
         with open(f"{room}/{name}", "wb") as file:
             file.write(data)
@@ -194,6 +195,7 @@ LINES = """
 0 probe clock.dtb drivers --workers 2
 0 find clock.dtb clocks
 0 who clock.dtb /clk
+0 map board.dtb
 0 fmt base.dts
 0 fmt base.dts --out OUT --hex
 0 explain 63

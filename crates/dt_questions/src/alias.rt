@@ -38,8 +38,8 @@ fn slash_in(text: &[u8]) -> Option<usize>
     text.iter().position(|byte| *byte == b'/')
 }
 
-// Where the first zero is.
-fn zero_in(value: &[u8]) -> Option<usize>
+/// Where the first zero is.
+pub fn zero_in(value: &[u8]) -> Option<usize>
     ensures place { result ≡ position (λ b. b == 0) value.now }
     ensures within { IfSome result (λ end. end < length value.now) }
 {

@@ -8,7 +8,7 @@ use crate::explaining::explained;
 use crate::nodes::{Asked, changed, compared, listed, sameness_of, valued};
 use crate::preprocessing::printed;
 use crate::questions::{needed, planned, probed, waiting};
-use crate::trees::{found, used};
+use crate::trees::{found, mapped, used};
 use dtman_author::{lay_out, serve_editor};
 use dtman_engine::Channel;
 use dtman_host::{Failure, Host, Surroundings, print, write_at};
@@ -171,6 +171,7 @@ fn answer_of<'a, S: Surroundings, E: Eprint, T: Threads + Sync>(
         } => replayed(host, plan, schedule, workers),
         Command::Find { blob, what } => found(host, blob, what),
         Command::Who { blob, path, number } => used(host, blob, path, number),
+        Command::Map { blob } => mapped(host, blob),
         Command::Check { inspection } => checked(host, &inspection),
         Command::Format { formatting } => Ok(Answer::Layout(formatting)),
         Command::Serve { folders } => Ok(Answer::Session(folders)),

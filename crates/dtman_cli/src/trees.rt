@@ -1,8 +1,8 @@
-//! What is asked of a board's tree: `find`, `who`; nodes by aliases.
+//! What is asked of a board's tree: `find`, `who`, `map`; nodes by aliases.
 
 use crate::nodes::unknown_path;
 use crate::performing::Answer;
-use dt_questions::{PathFault, Question, WhoFault, find_lines, path_by, who_lines};
+use dt_questions::{PathFault, Question, WhoFault, find_lines, map_lines, path_by, who_lines};
 use dt_tree::{Path, Tree};
 use dtman_engine::{BlobRole, Fault, tree_of};
 use dtman_host::{Failure, Given, Host, Inputs, REFUSED, Surroundings, file_of};
@@ -48,6 +48,20 @@ pub fn used<'a, S: Surroundings, E: Eprint, T>(
         Ok(text) => Ok(told(text)),
         Err(WhoFault::NoNode) => Err(no_node(host, given, node.as_bytes())),
         Err(WhoFault::NoMemory) => Err(no_memory()),
+    }
+}
+
+/// The memory map.
+pub fn mapped<'a, S: Surroundings, E: Eprint, T>(
+    host: &mut Host<'_, S, E, T>,
+    blob: &'a str,
+) -> Result<Answer<'a>, Failure<'a>> {
+    let bytes = host.blob(blob)?;
+    let tree = tree_in(host, file_of(blob, &bytes))?;
+    let hasher = host.seed()?;
+    match map_lines(host.alloc, hasher, &tree) {
+        Ok(text) => Ok(Answer::Text(text)),
+        Err(_) => Err(no_memory()),
     }
 }
 

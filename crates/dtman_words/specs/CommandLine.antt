@@ -6,7 +6,7 @@ use Rattle.std.specs.Str.Parse.{IsNumeral, digits_value, without_leading_plus}
 use Rattle.bus_manager.specs.Workers.{most_workers}
 use Rattle.clap.specs.Words.{Row, Text, all_of, count_of, first_of, one_of, subcommand_of}
 use Rattle.dtman_words.specs.declared.subcommand.Command.{Command}
-use Rattle.dtman_words.specs.declared.subcommand.Command.TheVariants.{Compile, Preprocess, Overlay, Dump, Plan, Replay, Probe, Why, Needs, Drivers, Trace, Find, Who, Check, Diff, Get, Listing, Set, Format, Serve, Explain}
+use Rattle.dtman_words.specs.declared.subcommand.Command.TheVariants.{Compile, Preprocess, Overlay, Dump, Plan, Replay, Probe, Why, Needs, Drivers, Trace, Find, Map, Who, Check, Diff, Get, Listing, Set, Format, Serve, Explain}
 use Rattle.dtman_words.specs.declared.subcommand.Board.{Board}
 use Rattle.dtman_words.specs.declared.subcommand.Choice.{Choice}
 use Rattle.dtman_words.specs.declared.subcommand.Choice.TheVariants.{AsNeeded, Always, Never}
@@ -137,6 +137,7 @@ IsMet (Find blob what) name rows =
 IsMet (Who blob path number) name rows =
     (name ≡ codes "who") × (first_of (codes "BLOB") rows ≡ Some blob.now) × (first_of (codes "PATH") rows ≡ Some path.now)
     × IsText number (codes "NUMBER") rows
+IsMet (Map blob) name rows = (name ≡ codes "map") × (first_of (codes "BLOB") rows ≡ Some blob.now)
 IsMet (Check inspection) name rows = (name ≡ codes "check") × IsInspection inspection rows
 IsMet (Diff first second order) name rows =
     (name ≡ codes "diff") × (first_of (codes "FIRST") rows ≡ Some first.now) × (first_of (codes "SECOND") rows ≡ Some second.now)

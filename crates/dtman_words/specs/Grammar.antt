@@ -141,6 +141,9 @@ find = with_rule (with_rule (new_app (codes "find")) (required (codes "BLOB"))) 
 abbrev pub who : App
 who = with_rule (with_rule (with_rule (new_app (codes "who")) (required (codes "BLOB"))) (required (codes "PATH"))) (optional (codes "NUMBER"))
 
+abbrev pub map : App
+map = with_rule (new_app (codes "map")) (required (codes "BLOB"))
+
 abbrev pub check : App
 check =
     with_preprocessing
@@ -191,7 +194,7 @@ with_questions app = with_subcommand (with_subcommand (with_subcommand (with_sub
 
 -- those of the boards' trees
 abbrev pub with_trees : App → App
-with_trees app = with_subcommand (with_subcommand app find.top) who.top
+with_trees app = with_subcommand (with_subcommand (with_subcommand app find.top) who.top) map.top
 
 -- those of the mistakes, the nodes and the values of blobs
 abbrev pub with_blobs : App → App

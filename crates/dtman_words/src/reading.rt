@@ -17,7 +17,7 @@ use bus_manager::MAX_WORKERS;
 use clap::error::ErrorKind;
 use clap::{ArgMatches, Error};
 use std::alloc::{AllocError, Global};
-use trees::{find, who};
+use trees::{find, map, who};
 
 /// Reads the words of a command line, of which the first is the program's name.
 pub fn command<'a>(alloc: Global, words: &'a [&'a str]) -> Result<Command<'a>, Error>
@@ -72,6 +72,7 @@ fn chosen<'a>(alloc: Global, matches: &ArgMatches<'a>) -> Result<Option<Command<
         "trace" => Ok(trace(given)),
         "find" => Ok(find(given)),
         "who" => Ok(who(given)),
+        "map" => Ok(map(given)),
         "check" => check(alloc, given),
         "diff" => Ok(diff(given)),
         "get" => Ok(get(given)),

@@ -175,6 +175,9 @@ pub enum Command<'a> {
         /// The line that is asked for, or else all.
         number: Option<&'a str>,
     },
+    Map {
+        blob: &'a str,
+    },
     Check {
         inspection: Inspection<'a>,
     },

@@ -11,7 +11,12 @@ use std::process::Abort;
 /// The tree of what stands in a root.
 pub fn tree_of(rt: &impl Abort, alloc: Global, hasher: RandomState, source: &str) -> Tree {
     let text = format!(in alloc; "/dts-v1/; / {{ {source} }};").expect(rt, "memory");
-    let source = parse(alloc, text.as_str().as_bytes(), Language::Profile).expect(rt, "a source");
+    tree_in(rt, alloc, hasher, text.as_str())
+}
+
+/// The tree of a source.
+pub fn tree_in(rt: &impl Abort, alloc: Global, hasher: RandomState, text: &str) -> Tree {
+    let source = parse(alloc, text.as_bytes(), Language::Profile).expect(rt, "a source");
     build(alloc, hasher, &source, false).expect(rt, "a tree")
 }
 

@@ -4,6 +4,8 @@
 #[cfg(test)]
 mod boards;
 #[cfg(test)]
+mod mapping;
+#[cfg(test)]
 mod naming;
 #[cfg(test)]
 mod users;

@@ -1,4 +1,4 @@
-//! What may be asked of a board's tree: `find`, `who`.
+//! What may be asked of a board's tree: `find`, `who`, `map`.
 ghost use Rattle.std.specs.Prelude.{◌≡◌, false, IfOk};
 ghost use Rattle.clap.specs.Words.{App, app_of};
 ghost use Rattle.clap.specs.declared.builder.command.Command.TheViews.{out-Command};
@@ -18,7 +18,8 @@ pub fn add_trees<'a>(
     ensures { (before : App) → Makes app.entry before → Makes result (spec.with_trees before) }
 {
     let app = add_subcommand(app, find(alloc));
-    add_subcommand(app, who(alloc))
+    let app = add_subcommand(app, who(alloc));
+    add_subcommand(app, map(alloc))
 }
 
 fn find<'a>(alloc: Global) -> Result<Command<'a>, AllocError>
@@ -39,4 +40,11 @@ fn who<'a>(alloc: Global) -> Result<Command<'a>, AllocError>
     let command = named(alloc, "who", about).arg(required(alloc, "BLOB", "The blob"));
     let command = add_argument(command, required(alloc, "PATH", path));
     add_argument(command, optional(alloc, "NUMBER", number))
+}
+
+fn map<'a>(alloc: Global) -> Result<Command<'a>, AllocError>
+    ensures { IfOk result (λ c. (app_of c ≡ spec.map) × ((out-Command c).has_globals ≡ false)) }
+{
+    let about = "Prints the memory map of a board, with what overlaps";
+    named(alloc, "map", about).arg(required(alloc, "BLOB", "The blob"))
 }

@@ -1,4 +1,4 @@
-//! What is asked of a board's tree: `find`, `who`.
+//! What is asked of a board's tree: `find`, `who`, `map`.
 ghost use Rattle.std.specs.Prelude.{◌≡◌, IfSome, codes};
 ghost use Rattle.clap.specs.Words.{found_of, rows_of};
 ghost use Rattle.dtman_words.specs.CommandLine.{IsMet};
@@ -22,4 +22,11 @@ pub fn who<'a>(given: &ArgMatches<'a>) -> Option<Command<'a>>
     let path = given.get_str("PATH")?;
     let number = text(given, "NUMBER");
     Some(Command::Who { blob, path, number })
+}
+
+pub fn map<'a>(given: &ArgMatches<'a>) -> Option<Command<'a>>
+    ensures { IfSome result (λ command. IsMet command (codes "map") (rows_of (found_of given.now))) }
+{
+    let blob = given.get_str("BLOB")?;
+    Some(Command::Map { blob })
 }

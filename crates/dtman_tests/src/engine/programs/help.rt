@@ -44,6 +44,7 @@ fn help_fits_80_columns(rt: HostRuntime) {
         &["dtman", "set", "--help"],
         &["dtman", "find", "--help"],
         &["dtman", "who", "--help"],
+        &["dtman", "map", "--help"],
         &["dtman", "fmt", "--help"],
         &["dtman", "lsp", "--help"],
         &["dtman", "explain", "--help"],

@@ -1,4 +1,4 @@
-//! What is asked of a board's tree: `find`, `who`, and nodes by aliases.
+//! What is asked of a board's tree: `find`, `who`, `map`, and nodes by aliases.
 
 use super::clock_and_uart::BLOB;
 use crate::runs::{Files, Left, Row, ends, left_by, rows_end};
@@ -65,6 +65,10 @@ const BOARD: &[u8] = b"/dts-v1/;
     lost = \"/none\";
   };
 
+  ram@1000 {
+    reg = <0 0x1000 0x100>;
+  };
+
   soc {
     c: clk {
       #clock-cells = <1>;
@@ -122,6 +126,12 @@ const ASKED: &[Row] = &[
         1,
         "",
         "error 53 UnknownPath\n",
+    ),
+    (
+        &["dtman", "map", "board.dtb"],
+        0,
+        "00001000-000010ff 256 /ram@1000\n",
+        "",
     ),
     (
         &["dtman", "get", "board.dtb", "clock", "#clock-cells"],

@@ -1,0 +1,4 @@
+use Rattle.dt_questions.proofs.numbers.+add_hex.Given as goal
+
+abbrev pub decreases-add_hex : goal.decreases-add_hex
+decreases-add_hex l = l.count
