@@ -1,10 +1,11 @@
 #!/usr/bin/env python3
 """Compares what `dtman probe --links linux` binds with what a booted kernel bound, for consumers that were made to try its rules.
 
-    rules.py PROGRAM BLOB DRIVERS ROWS DEVICES [--strict]
+    rules.py PROGRAM BLOB DRIVERS ROWS DEVICES [OPTION..]
 
 ROWS has a name a line: that of the consumer's node. DEVICES is what /sys said, a line `DEV NAME NODE [DRIVER]` for each device. A row
-agrees where `probe` says bound exactly where the kernel bound the device, or where neither has one. The exit status is 0 where all agree.
+agrees where `probe` says bound exactly where the kernel bound the device, or where neither has one. The options are `probe`'s: `--strict` of
+a kernel with `fw_devlink.strict=1`, `--timeout never` of what was bound before its timeout ended. The exit status is 0 where all agree.
 """
 import subprocess
 import sys

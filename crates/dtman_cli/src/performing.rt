@@ -153,10 +153,16 @@ fn answer_of<'a, S: Surroundings, E: Eprint, T: Threads + Sync>(
         Command::Plan { board, picture } => planned(host, board, picture),
         Command::Probe {
             board,
+            timeout,
             workers,
             without,
-        } => probed(host, board, workers, without),
-        Command::Why { board, path, check } => waiting(host, board, path, check),
+        } => probed(host, board, timeout, workers, without),
+        Command::Why {
+            board,
+            timeout,
+            path,
+            check,
+        } => waiting(host, board, timeout, path, check),
         Command::Needs { board, path } => needed(host, board, path),
         Command::Drivers {
             aliases,

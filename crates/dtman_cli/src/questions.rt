@@ -5,7 +5,7 @@ use bus_links::Strictness;
 use dtman_diagnosis::{TextKind, driver_names};
 use dtman_engine::Fault;
 use dtman_host::{Failure, Host, Inputs, Planned, REFUSED, Surroundings, file_of, no_such};
-use dtman_why::{Asked, BoardAnswer, Form, board_answer, without_driver};
+use dtman_why::{Asked, BoardAnswer, Form, Rules, Timeout, board_answer, without_driver};
 use dtman_words::{Board, Links, Picture};
 use std::alloc::Global;
 use std::thread::Threads;
@@ -32,7 +32,7 @@ pub fn planned<'a, S: Surroundings, E: Eprint, T: Threads + Sync>(
     picture: Picture<'a>,
 ) -> Result<Answer<'a>, Failure<'a>> {
     let asked = plan_asked(picture)?;
-    let answer = answered(host, board, None, asked)?;
+    let answer = answered(host, board, None, None, asked)?;
     Ok(Answer::Text(answer.text))
 }
 
@@ -40,10 +40,12 @@ pub fn planned<'a, S: Surroundings, E: Eprint, T: Threads + Sync>(
 pub fn probed<'a, S: Surroundings, E: Eprint, T: Threads + Sync>(
     host: &mut Host<'_, S, E, T>,
     board: Board<'a>,
+    timeout: Option<&'a str>,
     workers: u8,
     without: Option<&'a str>,
 ) -> Result<Answer<'a>, Failure<'a>> {
-    let answer = answered(host, board, without, Asked::Report(workers as usize))?;
+    let asked = Asked::Report(workers as usize);
+    let answer = answered(host, board, timeout, without, asked)?;
     Ok(Answer::Text(answer.text))
 }
 
@@ -51,10 +53,12 @@ pub fn probed<'a, S: Surroundings, E: Eprint, T: Threads + Sync>(
 pub fn waiting<'a, S: Surroundings, E: Eprint, T: Threads + Sync>(
     host: &mut Host<'_, S, E, T>,
     board: Board<'a>,
+    timeout: Option<&'a str>,
     path: Option<&'a str>,
     check: bool,
 ) -> Result<Answer<'a>, Failure<'a>> {
-    let BoardAnswer { text, any, .. } = answered(host, board, None, Asked::Why(bytes_of(path)))?;
+    let asked = Asked::Why(bytes_of(path));
+    let BoardAnswer { text, any, .. } = answered(host, board, timeout, None, asked)?;
     if check && any {
         return Ok(Answer::Failing {
             text,
@@ -70,7 +74,7 @@ pub fn needed<'a, S: Surroundings, E: Eprint, T: Threads + Sync>(
     board: Board<'a>,
     path: &'a str,
 ) -> Result<Answer<'a>, Failure<'a>> {
-    let answer = answered(host, board, None, Asked::Needs(path.as_bytes()))?;
+    let answer = answered(host, board, None, None, Asked::Needs(path.as_bytes()))?;
     Ok(Answer::Text(answer.text))
 }
 
@@ -78,10 +82,11 @@ pub fn needed<'a, S: Surroundings, E: Eprint, T: Threads + Sync>(
 fn answered<'a, S: Surroundings, E: Eprint, T: Threads + Sync>(
     host: &mut Host<'_, S, E, T>,
     board: Board<'a>,
+    timeout: Option<&'a str>,
     without: Option<&'a str>,
     asked: Asked<'_>,
 ) -> Result<BoardAnswer, Failure<'a>> {
-    let links = strictness_of(board.links)?;
+    let links = rules_of(board.links, timeout)?;
     let blob = host.blob(board.blob)?;
     let drivers = host.text(board.drivers)?;
     let hasher = host.seed()?;
@@ -112,7 +117,7 @@ fn answered<'a, S: Surroundings, E: Eprint, T: Threads + Sync>(
     }
 }
 
-fn kind_of(links: Option<Strictness>) -> TextKind {
+fn kind_of(links: Option<Rules>) -> TextKind {
     match links {
         Some(_) => TextKind::LinkDrivers,
         None => TextKind::Drivers,
@@ -129,16 +134,36 @@ fn path_in<'a>(asked: Asked<'a>) -> Option<&'a [u8]> {
     }
 }
 
-/// Whether the links of Linux are asked for, and how strictly.
-fn strictness_of<'a>(links: Links<'a>) -> Result<Option<Strictness>, Failure<'a>> {
+// After how many seconds Linux 6.1 waits no longer for devices that no driver matches, where its command line says nothing.
+const SECONDS: u32 = 10;
+
+// When Linux waits no longer for devices that no driver matches.
+fn timeout_of<'a>(word: Option<&'a str>) -> Result<Timeout, Failure<'a>> {
+    match word {
+        None => Ok(Timeout::Seconds(SECONDS)),
+        Some("never") => Ok(Timeout::Never),
+        Some(word) => match word.parse::<u32>() {
+            Ok(0) | Err(_) => Err(Failure::BadWord(word, "no number of seconds, nor never")),
+            Ok(seconds) => Ok(Timeout::Seconds(seconds)),
+        },
+    }
+}
+
+/// Whether the links of Linux are asked for, and by which rules.
+fn rules_of<'a>(links: Links<'a>, timeout: Option<&'a str>) -> Result<Option<Rules>, Failure<'a>> {
     let strictness = if links.strict {
         Strictness::Strict
     } else {
         Strictness::Usual
     };
+    let timeout = timeout_of(timeout)?;
+    let rules = Rules {
+        strictness,
+        timeout,
+    };
     match links.name {
         None => Ok(None),
-        Some("linux") => Ok(Some(strictness)),
+        Some("linux") => Ok(Some(rules)),
         Some(name) => Err(Failure::NoSuchLinks(name)),
     }
 }

@@ -4,8 +4,8 @@ use crate::by_links::linked_answer;
 use crate::order_text::needs_text;
 use crate::pictures::{Picture, planned_picture};
 use crate::reasons::{BuiltIn, NoReasons};
+use crate::rules::Rules;
 use crate::waits::why_text;
-use bus_links::Strictness;
 use bus_manager::TableProber;
 use dtman_engine::{Fault, plan_bytes, planned, probe_bytes};
 use std::alloc::Global;
@@ -46,7 +46,7 @@ impl BoardAnswer {
     }
 }
 
-/// What is asked of the plan of a blob's tree: by the links of Linux, as strictly as is said, or else by the table of suppliers.
+/// What is asked of the plan of a blob's tree: by the links of Linux, by these rules, or else by the table of suppliers.
 /// The faults are those of `planned`; by the links those of suppliers are warnings.
 pub fn board_answer<R: Threads + Sync>(
     rt: &R,
@@ -54,11 +54,11 @@ pub fn board_answer<R: Threads + Sync>(
     hasher: RandomState,
     blob: &[u8],
     drivers: &[u8],
-    links: Option<Strictness>,
+    links: Option<Rules>,
     asked: Asked<'_>,
 ) -> Result<BoardAnswer, Fault> {
     match links {
-        Some(strictness) => linked_answer(rt, alloc, hasher, blob, drivers, strictness, asked),
+        Some(rules) => linked_answer(rt, alloc, hasher, blob, drivers, rules, asked),
         None => planned_answer(rt, alloc, hasher, blob, drivers, asked),
     }
 }

@@ -1,61 +1,19 @@
 //! Answers by the links of Linux.
 
 use crate::answers::{Asked, BoardAnswer};
+use crate::late::boot_report;
+use crate::late_waits::boot_why;
 use crate::order_text::needs_text;
 use crate::pictures::linked_picture;
-use crate::reasons::{BuiltIn, Reasons};
-use crate::waits::{Waits, why_text};
-use bus_links::{Link, Linked, Strictness, link, linked_text, read_link_drivers, warnings_text};
-use bus_manager::{TableProber, run};
-use bus_plan::{Device, Plan};
+use crate::reasons::BuiltIn;
+use crate::rules::{Rules, Timeout};
+use crate::waits::Waits;
+use bus_links::{Linked, link, linked_text, read_link_drivers, warnings_text};
 use dt_blob::read;
 use dtman_engine::Fault;
-use std::alloc::{AllocError, Global};
+use std::alloc::Global;
 use std::hash::RandomState;
 use std::thread::Threads;
-
-// ` (PROPERTY)` or ` (PROPERTY, entry N)` for what made a link, ` (its bus)` for the bus above.
-fn add_reason(alloc: Global, text: &mut Vec<u8>, link: &Link<'_>) -> Result<(), AllocError> {
-    if link.is_bus() {
-        return text.extend_from_slice(b" (its bus)");
-    }
-    text.extend_from_slice(b" (")?;
-    text.extend_from_slice(link.property())?;
-    if link.entry() > 0 {
-        let entry = format!(in alloc; ", entry {}", link.entry())?;
-        text.extend_from_slice(entry.as_bytes())?;
-    }
-    text.extend_from_slice(b")")
-}
-
-impl Reasons for Linked<'_> {
-    fn add(
-        &self,
-        alloc: Global,
-        text: &mut Vec<u8>,
-        consumer: Device,
-        supplier: Device,
-    ) -> Result<(), AllocError> {
-        for link in self.links_of(consumer) {
-            if link.supplier().index() == supplier.index() {
-                return add_reason(alloc, text, link);
-            }
-        }
-        Ok(())
-    }
-}
-
-fn report<R: Threads + Sync>(
-    rt: &R,
-    alloc: Global,
-    plan: &Plan,
-    workers: usize,
-) -> Result<Vec<u8>, Fault> {
-    match run(rt, alloc, plan, &TableProber, workers) {
-        Ok(ran) => Ok(ran.report),
-        Err(error) => Err(Fault::from(error)),
-    }
-}
 
 // A text that lists nothing.
 fn alone(text: Vec<u8>) -> Waits {
@@ -67,13 +25,14 @@ fn answer<R: Threads + Sync>(
     alloc: Global,
     linked: &Linked<'_>,
     built_in: BuiltIn,
+    timeout: Timeout,
     asked: Asked<'_>,
 ) -> Result<Waits, Fault> {
     match asked {
         Asked::Plan => Ok(alone(linked_text(alloc, linked)?)),
         Asked::Picture(picture) => Ok(alone(linked_picture(rt, alloc, linked, picture)?)),
-        Asked::Report(workers) => Ok(alone(report(rt, alloc, linked.plan(), workers)?)),
-        Asked::Why(path) => why_text(rt, alloc, linked.plan(), linked, built_in, path),
+        Asked::Report(workers) => Ok(alone(boot_report(rt, alloc, linked, workers, timeout)?)),
+        Asked::Why(path) => boot_why(rt, alloc, linked, built_in, timeout, path),
         Asked::Needs(path) => Ok(alone(needs_text(alloc, linked.plan(), path)?)),
     }
 }
@@ -83,10 +42,11 @@ fn with_warnings<R: Threads + Sync>(
     alloc: Global,
     linked: &Linked<'_>,
     built_in: BuiltIn,
+    timeout: Timeout,
     asked: Asked<'_>,
 ) -> Result<BoardAnswer, Fault> {
     let warnings = warnings_text(alloc, linked)?;
-    let Waits { text, any } = answer(rt, alloc, linked, built_in, asked)?;
+    let Waits { text, any } = answer(rt, alloc, linked, built_in, timeout, asked)?;
     Ok(BoardAnswer {
         text,
         any,
@@ -102,12 +62,12 @@ pub(crate) fn linked_answer<R: Threads + Sync>(
     hasher: RandomState,
     blob: &[u8],
     drivers: &[u8],
-    strictness: Strictness,
+    rules: Rules,
     asked: Asked<'_>,
 ) -> Result<BoardAnswer, Fault> {
     let tree = read(alloc, blob)?;
     let built_in = BuiltIn::of(drivers);
     let drivers = read_link_drivers(alloc, hasher, drivers)?;
-    let linked = link(alloc, hasher, &tree, &drivers, strictness)?;
-    with_warnings(rt, alloc, &linked, built_in, asked)
+    let linked = link(alloc, hasher, &tree, &drivers, rules.strictness)?;
+    with_warnings(rt, alloc, &linked, built_in, rules.timeout, asked)
 }

@@ -28,8 +28,8 @@ fn add_strings(text: &mut Vec<u8>, plan: &Plan, device: Device) -> Result<(), Al
     Ok(())
 }
 
-// The name of a device's driver.
-fn add_driver(text: &mut Vec<u8>, plan: &Plan, device: Device) -> Result<(), AllocError> {
+/// Puts the name of a device's driver behind a text.
+pub fn add_driver(text: &mut Vec<u8>, plan: &Plan, device: Device) -> Result<(), AllocError> {
     if device.index() >= plan.len() {
         return Ok(());
     }
@@ -73,8 +73,8 @@ fn add_cause(
     }
 }
 
-/// Puts the line of a chain behind a text: `PATH waits for PATH (PROPERTY) waits for PATH (PROPERTY): CAUSE`.
-pub fn add_chain<S: Reasons>(
+/// Puts a chain behind a text: `PATH waits for PATH (PROPERTY) waits for PATH (PROPERTY): CAUSE`.
+pub fn add_waits<S: Reasons>(
     alloc: Global,
     text: &mut Vec<u8>,
     plan: &Plan,
@@ -96,6 +96,19 @@ pub fn add_chain<S: Reasons>(
     if let Some(last) = before {
         add_cause(text, plan, built_in, last, chain.cause)?;
     }
+    Ok(())
+}
+
+/// Puts the line of a chain behind a text.
+pub fn add_chain<S: Reasons>(
+    alloc: Global,
+    text: &mut Vec<u8>,
+    plan: &Plan,
+    reasons: &S,
+    built_in: BuiltIn,
+    chain: &Chain,
+) -> Result<(), AllocError> {
+    add_waits(alloc, text, plan, reasons, built_in, chain)?;
     text.push(b'\n')?;
     Ok(())
 }

@@ -39,6 +39,30 @@ fn bound_places(
     Ok(bound)
 }
 
+/// The report of a run, and whether each device is bound at its end.
+#[derive(Drop)]
+pub(crate) struct End {
+    pub report: Vec<u8>,
+    pub bound: Vec<bool>,
+}
+
+/// The end of a run by so many workers, 1 to 64.
+pub(crate) fn ended<R: Threads + Sync>(
+    rt: &R,
+    alloc: Global,
+    plan: &Plan,
+    workers: usize,
+) -> Result<End, Fault> {
+    match run(rt, alloc, plan, &TableProber, workers) {
+        Ok(ran) => {
+            let bound = bound_places(alloc, plan, ran.notes.as_slice())?;
+            let report = ran.report;
+            Ok(End { report, bound })
+        }
+        Err(error) => Err(Fault::from(error)),
+    }
+}
+
 /// Whether each device of a plan is bound at the end, in the plan's order: the least set that matching and suppliers force.
 pub fn end_of<R: Threads + Sync>(rt: &R, alloc: Global, plan: &Plan) -> Result<Vec<bool>, Fault>
     ensures { IfOk result (λ bound. IsLeast plan.now (bound_by bound.items)) }

@@ -119,10 +119,11 @@ IsMet (Overlay base overlay out) name rows =
 IsMet (Dump blob labels) name rows =
     (name ≡ codes "dump") × (first_of (codes "IN") rows ≡ Some blob.now) × (labels ≡ is_on (first_of (codes "labels") rows))
 IsMet (Plan board picture) name rows = (name ≡ codes "plan") × IsBoard board rows × IsPicture picture rows
-IsMet (Probe board workers without) name rows =
-    (name ≡ codes "probe") × IsBoard board rows × AreWorkers workers rows × IsText without (codes "without") rows
-IsMet (Why board path check) name rows =
-    (name ≡ codes "why") × IsBoard board rows × IsText path (codes "PATH") rows × (check ≡ is_on (first_of (codes "check") rows))
+IsMet (Probe board timeout workers without) name rows =
+    (name ≡ codes "probe") × IsBoard board rows × IsText timeout (codes "timeout") rows
+    × AreWorkers workers rows × IsText without (codes "without") rows
+IsMet (Why board timeout path check) name rows =
+    (name ≡ codes "why") × IsBoard board rows × IsText timeout (codes "timeout") rows × IsText path (codes "PATH") rows × (check ≡ is_on (first_of (codes "check") rows))
 IsMet (Needs board path) name rows = (name ≡ codes "needs") × IsBoard board rows × (first_of (codes "PATH") rows ≡ Some path.now)
 IsMet (Drivers aliases builtin kernel) name rows =
     (name ≡ codes "drivers") × (first_of (codes "ALIASES") rows ≡ Some aliases.now) × IsText builtin (codes "MODINFO") rows

@@ -40,6 +40,14 @@ beside id = record (new_rule id) { long = Some id; action = Some SetTrue; is_fre
 abbrev pub with_links : App → App
 with_links app = with_rule (with_rule app (asked_text (codes "links"))) (beside (codes "strict"))
 
+-- an option with a text that wants another beside it
+abbrev pub text_beside : Text → Rule
+text_beside id = record (new_rule id) { long = Some id; value_names = 1; is_free = false }
+
+-- whose links count, and when Linux waits no longer for devices without a driver
+abbrev pub with_timeout : App → App
+with_timeout app = with_rule (with_links app) (text_beside (codes "timeout"))
+
 -- what is drawn
 abbrev pub with_picture : App → App
 with_picture app = with_rule (with_rule (with_rule app (flag (codes "dot"))) (flag (codes "html"))) (asked_text (codes "of"))
@@ -89,14 +97,14 @@ replay =
 
 abbrev pub probe : App
 probe =
-    with_links
+    with_timeout
     (with_rule
     (with_rule (with_rule (with_rule (new_app (codes "probe")) (required (codes "BLOB"))) (required (codes "DRIVERS"))) (number (codes "workers") most_workers (codes "4")))
     (asked_text (codes "without")))
 
 abbrev pub why : App
 why =
-    with_links
+    with_timeout
     (with_rule (with_rule (with_rule (with_rule (new_app (codes "why")) (required (codes "BLOB"))) (required (codes "DRIVERS"))) (optional (codes "PATH")))
     (flag (codes "check")))
 

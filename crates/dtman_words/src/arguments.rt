@@ -141,6 +141,23 @@ pub fn beside<'a>(
         .requires_arg(other)
 }
 
+/// An option with a text, which wants another beside it.
+pub fn text_beside<'a>(
+    alloc: Global,
+    name: &'a str,
+    value: &'a str,
+    other: &'a str,
+    about: &'a str,
+) -> Result<Arg<'a>, AllocError>
+    ensures { IfOk result (λ a. (rule_of a ≡ spec.text_beside name.now) × (a.global ≡ false)) }
+{
+    Arg::new(alloc, name)
+        .long(name)
+        .value_name(value)
+        .help(about)
+        .requires_arg(other)
+}
+
 /// An option with a value, which wants another beside it.
 pub fn repeated<'a>(
     alloc: Global,

@@ -10,7 +10,7 @@ mod trees;
 
 use crate::arguments::{
     again, asked_number, asked_text, beside, counted, flag, lettered, listed, number, optional,
-    others, repeated, required, several,
+    others, repeated, required, several, text_beside,
 };
 use authors::add_authors;
 use bus_manager::MAX_WORKERS;
@@ -138,6 +138,19 @@ fn add_links<'a>(
     let command = add_argument(command, asked_text(alloc, "links", "MODEL", links));
     let strict = beside(alloc, "strict", "links", strict)?;
     add_argument(command, strict)
+}
+
+/// Adds these, and the option that says when Linux waits no longer for devices without a driver.
+fn add_timeout<'a>(
+    alloc: Global,
+    command: Result<Command<'a>, AllocError>,
+) -> Result<Command<'a>, AllocError>
+    ensures { (app : App) → Makes command.entry app → Makes result (spec.with_timeout app) }
+{
+    let about = "Ends waits for devices without driver (10), or never";
+    let command = add_links(alloc, command);
+    let timeout = text_beside(alloc, "timeout", "SECONDS", "links", about)?;
+    add_argument(command, timeout)
 }
 
 /// Adds the options that say which checks are made.
@@ -309,7 +322,7 @@ fn probe<'a>(alloc: Global) -> Result<Command<'a>, AllocError>
     let command = add_argument(command, required(alloc, "DRIVERS", "The driver file"));
     let command = add_argument(command, number(alloc, "workers", most, "4", workers));
     let command = add_argument(command, asked_text(alloc, "without", "DRIVER", without));
-    add_links(alloc, command)
+    add_timeout(alloc, command)
 }
 
 fn why<'a>(alloc: Global) -> Result<Command<'a>, AllocError>
@@ -322,7 +335,7 @@ fn why<'a>(alloc: Global) -> Result<Command<'a>, AllocError>
     let command = add_argument(command, required(alloc, "DRIVERS", "The driver file"));
     let command = add_argument(command, optional(alloc, "PATH", path));
     let command = add_argument(command, flag(alloc, "check", check));
-    add_links(alloc, command)
+    add_timeout(alloc, command)
 }
 
 fn needs<'a>(alloc: Global) -> Result<Command<'a>, AllocError>

@@ -225,6 +225,7 @@ fn probe<'a>(given: &ArgMatches<'a>) -> Option<Command<'a>>
 {
     Some(Command::Probe {
         board: board(given)?,
+        timeout: text(given, "timeout"),
         workers: workers(given)?,
         without: text(given, "without"),
     })
@@ -235,6 +236,7 @@ fn why<'a>(given: &ArgMatches<'a>) -> Option<Command<'a>>
 {
     Some(Command::Why {
         board: board(given)?,
+        timeout: text(given, "timeout"),
         path: text(given, "PATH"),
         check: is_on(given, "check"),
     })

@@ -137,6 +137,8 @@ pub enum Command<'a> {
     },
     Probe {
         board: Board<'a>,
+        /// After how many seconds Linux waits no longer for devices without a driver, or `never`.
+        timeout: Option<&'a str>,
         /// From 1 to `MAX_WORKERS`.
         workers: u8,
         /// A driver of the file that never comes.
@@ -144,6 +146,8 @@ pub enum Command<'a> {
     },
     Why {
         board: Board<'a>,
+        /// As in `Probe`.
+        timeout: Option<&'a str>,
         /// The device that is asked for, or else each that waits.
         path: Option<&'a str>,
         /// End with another status where a device is listed.

@@ -234,6 +234,7 @@ fn workers_of(alloc: Global, command: &str, option: (&str, &str)) -> Result<Opti
                 ..
             },
             workers,
+            timeout: None,
             without: None,
         } => Ok(Some(workers)),
         Command::Replay {
@@ -307,6 +308,32 @@ fn reads_why(rt: HostRuntime) {
             })
         )
     );
+}
+
+#[test]
+fn reads_a_timeout(rt: HostRuntime) {
+    let words = [
+        "dtman",
+        "why",
+        "b",
+        "d",
+        "--links=linux",
+        "--timeout",
+        "never",
+    ];
+    let never = read(rt.alloc(), words.as_slice());
+    assert!(rt;
+        matches!(
+            never,
+            Ok(Command::Why {
+                timeout: Some("never"),
+                ..
+            })
+        )
+    );
+    let words = ["dtman", "probe", "b", "d", "--timeout=30"];
+    let alone = read(rt.alloc(), words.as_slice());
+    assert!(rt; matches!(alone, Err(ErrorKind::MissingRequiredArgument)));
 }
 
 #[test]

@@ -6,4 +6,4 @@ returns c =
     let first = first_argument c.named.result c.required.result c.arg-command.result _ _ c.named.ensures.shape c.named.ensures.globals c.required.ensures.local c.arg-command.ensures c.required.ensures.rule in
     let drivers = c.add_argument-command.ensures _ _ first c.required-2.ensures.rule in
     let workers = c.add_argument-command-2.ensures _ _ drivers c.number.ensures.rule in
-    c.add_links.ensures _ (c.add_argument-command-3.ensures _ _ workers c.asked_text.ensures.rule)
+    c.add_timeout.ensures _ (c.add_argument-command-3.ensures _ _ workers c.asked_text.ensures.rule)
