@@ -5,4 +5,5 @@ pub mod LinkFile
 pub mod LinkPlan
 pub mod Linked
 pub mod Links
+pub mod Lost
 pub mod Private

@@ -7,6 +7,8 @@ mod kernel_rows;
 #[cfg(test)]
 mod links;
 #[cfg(test)]
+mod lost;
+#[cfg(test)]
 mod many;
 #[cfg(test)]
 mod pictures;
