@@ -1,14 +1,15 @@
 //! Answers by the links of Linux.
 
 use crate::answers::{Asked, BoardAnswer};
-use crate::late::boot_report;
+use crate::disabled::told_lost;
+use crate::late::{LinkedBoard, boot_report};
 use crate::late_waits::boot_why;
 use crate::order_text::needs_text;
 use crate::pictures::linked_picture;
 use crate::reasons::BuiltIn;
-use crate::rules::{Rules, Timeout};
+use crate::rules::Rules;
 use crate::waits::Waits;
-use bus_links::{Linked, link, linked_text, read_link_drivers, warnings_text};
+use bus_links::{link, linked_text, read_link_drivers, warnings_text};
 use dt_blob::read;
 use dtman_engine::Fault;
 use std::alloc::Global;
@@ -23,16 +24,15 @@ fn alone(text: Vec<u8>) -> Waits {
 fn answer<R: Threads + Sync>(
     rt: &R,
     alloc: Global,
-    linked: &Linked<'_>,
-    built_in: BuiltIn,
-    timeout: Timeout,
+    board: &LinkedBoard<'_, '_>,
     asked: Asked<'_>,
 ) -> Result<Waits, Fault> {
+    let linked = board.linked;
     match asked {
         Asked::Plan => Ok(alone(linked_text(alloc, linked)?)),
         Asked::Picture(picture) => Ok(alone(linked_picture(rt, alloc, linked, picture)?)),
-        Asked::Report(workers) => Ok(alone(boot_report(rt, alloc, linked, workers, timeout)?)),
-        Asked::Why(path) => boot_why(rt, alloc, linked, built_in, timeout, path),
+        Asked::Report(workers) => Ok(alone(boot_report(rt, alloc, board, workers)?)),
+        Asked::Why(path) => boot_why(rt, alloc, board, path),
         Asked::Needs(path) => Ok(alone(needs_text(alloc, linked.plan(), path)?)),
     }
 }
@@ -40,13 +40,11 @@ fn answer<R: Threads + Sync>(
 fn with_warnings<R: Threads + Sync>(
     rt: &R,
     alloc: Global,
-    linked: &Linked<'_>,
-    built_in: BuiltIn,
-    timeout: Timeout,
+    board: &LinkedBoard<'_, '_>,
     asked: Asked<'_>,
 ) -> Result<BoardAnswer, Fault> {
-    let warnings = warnings_text(alloc, linked)?;
-    let Waits { text, any } = answer(rt, alloc, linked, built_in, timeout, asked)?;
+    let warnings = warnings_text(alloc, board.linked)?;
+    let Waits { text, any } = answer(rt, alloc, board, asked)?;
     Ok(BoardAnswer {
         text,
         any,
@@ -69,5 +67,12 @@ pub(crate) fn linked_answer<R: Threads + Sync>(
     let built_in = BuiltIn::of(drivers);
     let drivers = read_link_drivers(alloc, hasher, drivers)?;
     let linked = link(alloc, hasher, &tree, &drivers, rules.strictness)?;
-    with_warnings(rt, alloc, &linked, built_in, rules.timeout, asked)
+    let lost = told_lost(alloc, hasher, &tree, rules.strictness, asked)?;
+    let board = LinkedBoard {
+        linked: &linked,
+        built_in,
+        timeout: rules.timeout,
+        lost: lost.as_slice(),
+    };
+    with_warnings(rt, alloc, &board, asked)
 }

@@ -2,19 +2,30 @@
 
 use crate::chain_text::{add_driver, add_path};
 use crate::end::{End, ended};
+use crate::reasons::BuiltIn;
 use crate::rules::Timeout;
-use bus_links::Linked;
+use bus_links::{Link, Linked};
 use bus_picture::why::end_cause;
 use bus_plan::{Device, Plan, lines_of};
 use dtman_engine::Fault;
 use std::alloc::{AllocError, Global};
 use std::thread::Threads;
 
+/// A board by the links of Linux: whether its driver file has built-in drivers, when Linux waits no longer, and by which entries devices
+/// name disabled ones, where that is told.
+#[derive(Clone, Copy)]
+pub(crate) struct LinkedBoard<'b, 't> {
+    pub linked: &'b Linked<'t>,
+    pub built_in: BuiltIn,
+    pub timeout: Timeout,
+    pub lost: &'b [Link<'t>],
+}
+
 /// Which devices of a plan by links are bound when the timeout ends, the plan that is left behind it, which are bound by that one, and how
 /// it is told that one waits until then. Without a timeout both are the same.
 #[derive(Clone, Copy)]
 pub(crate) struct Boot<'b, 't> {
-    pub linked: &'b Linked<'t>,
+    pub board: &'b LinkedBoard<'b, 't>,
     pub before: &'b [bool],
     pub last: &'b Plan,
     pub behind: &'b [bool],
@@ -37,7 +48,8 @@ fn waits(plan: &Plan, bound: &[bool], device: Device) -> bool {
 impl Boot<'_, '_> {
     /// Whether a device waits until the timeout ends, and no longer.
     pub fn is_released(&self, device: Device) -> bool {
-        waits(self.linked.plan(), self.before, device) && !waits(self.last, self.behind, device)
+        waits(self.board.linked.plan(), self.before, device)
+            && !waits(self.last, self.behind, device)
     }
 
     /// Whether a device is bound in the end.
@@ -68,8 +80,8 @@ impl Boot<'_, '_> {
         before: &[u8],
         behind: &[u8],
     ) -> Result<(), AllocError> {
-        if self.linked.is_absent(device) {
-            add_path(text, self.linked.plan(), device)?;
+        if self.board.linked.is_absent(device) {
+            add_path(text, self.board.linked.plan(), device)?;
             text.extend_from_slice(b" no-device")?;
         } else if self.is_released(device) {
             text.extend_from_slice(before)?;
@@ -89,7 +101,7 @@ impl Boot<'_, '_> {
     ) -> Result<(), AllocError> {
         let mut before = lines_of(before);
         let mut behind = lines_of(behind);
-        for place in 0..self.linked.plan().len() {
+        for place in 0..self.board.linked.plan().len() {
             if let (Some(before), Some(behind)) = (before.next(), behind.next()) {
                 self.add_line(text, Device::new(place), before, behind)?;
             }
@@ -99,10 +111,10 @@ impl Boot<'_, '_> {
 
     // A line for each device that is released.
     fn add_turns(&self, text: &mut Vec<u8>) -> Result<(), AllocError> {
-        for place in 0..self.linked.plan().len() {
+        for place in 0..self.board.linked.plan().len() {
             let device = Device::new(place);
             if self.is_released(device) {
-                add_path(text, self.linked.plan(), device)?;
+                add_path(text, self.board.linked.plan(), device)?;
                 text.push(b' ')?;
                 self.add_turn(text, device)?;
                 text.push(b'\n')?;
@@ -116,6 +128,7 @@ impl Boot<'_, '_> {
         let mut text = Vec::new(alloc);
         self.add_lines(&mut text, before, behind)?;
         self.add_turns(&mut text)?;
+        self.add_lost(alloc, &mut text, b" ", None)?;
         text.extend_from_slice(b"quiet\n")?;
         Ok(text)
     }
@@ -124,14 +137,14 @@ impl Boot<'_, '_> {
 // The report of a boot with these ends.
 fn report_of(
     alloc: Global,
-    linked: &Linked<'_>,
+    board: &LinkedBoard<'_, '_>,
     before: &End,
     last: &Plan,
     behind: &End,
     until: &[u8],
 ) -> Result<Vec<u8>, AllocError> {
     let boot = Boot {
-        linked,
+        board,
         before: before.bound.as_slice(),
         last,
         behind: behind.bound.as_slice(),
@@ -143,15 +156,15 @@ fn report_of(
 fn late_report<R: Threads + Sync>(
     rt: &R,
     alloc: Global,
-    linked: &Linked<'_>,
+    board: &LinkedBoard<'_, '_>,
     workers: usize,
     before: &End,
     seconds: u32,
 ) -> Result<Vec<u8>, Fault> {
     let until = until_text(alloc, seconds)?;
-    let last = linked.late();
+    let last = board.linked.late();
     match ended(rt, alloc, last, workers) {
-        Ok(behind) => Ok(report_of(alloc, linked, before, last, &behind, until.as_slice())?),
+        Ok(behind) => Ok(report_of(alloc, board, before, last, &behind, until.as_slice())?),
         Err(fault) => Err(fault),
     }
 }
@@ -161,13 +174,13 @@ fn late_report<R: Threads + Sync>(
 pub(crate) fn boot_report<R: Threads + Sync>(
     rt: &R,
     alloc: Global,
-    linked: &Linked<'_>,
+    board: &LinkedBoard<'_, '_>,
     workers: usize,
-    timeout: Timeout,
 ) -> Result<Vec<u8>, Fault> {
-    let before = ended(rt, alloc, linked.plan(), workers)?;
-    match timeout {
-        Timeout::Never => Ok(report_of(alloc, linked, &before, linked.plan(), &before, b"")?),
-        Timeout::Seconds(seconds) => late_report(rt, alloc, linked, workers, &before, seconds),
+    let plan = board.linked.plan();
+    let before = ended(rt, alloc, plan, workers)?;
+    match board.timeout {
+        Timeout::Never => Ok(report_of(alloc, board, &before, plan, &before, b"")?),
+        Timeout::Seconds(seconds) => late_report(rt, alloc, board, workers, &before, seconds),
     }
 }

@@ -2,12 +2,10 @@
 
 use crate::chain_text::{add_chain, add_path, add_waits};
 use crate::end::end_of;
-use crate::late::{Boot, until_text};
+use crate::late::{Boot, LinkedBoard, until_text};
 use crate::link_reasons::LateLinks;
-use crate::reasons::BuiltIn;
 use crate::rules::Timeout;
 use crate::waits::{Waits, device_at, no_device};
-use bus_links::Linked;
 use bus_picture::why::{Chain, chain_from, waiting_chains};
 use bus_plan::{Device, Plan};
 use dtman_engine::Fault;
@@ -42,15 +40,14 @@ impl Boot<'_, '_> {
         &self,
         alloc: Global,
         text: &mut Vec<u8>,
-        built_in: BuiltIn,
         chain: &Chain,
     ) -> Result<(), AllocError> {
         add_waits(
             alloc,
             text,
-            self.linked.plan(),
-            self.linked,
-            built_in,
+            self.board.linked.plan(),
+            self.board.linked,
+            self.board.built_in,
             chain,
         )?;
         text.extend_from_slice(self.until)?;
@@ -67,12 +64,11 @@ impl Boot<'_, '_> {
         &self,
         alloc: Global,
         text: &mut Vec<u8>,
-        built_in: BuiltIn,
         chain: &Chain,
     ) -> Result<(), AllocError> {
-        let linked = self.linked;
+        let linked = self.board.linked;
         let reasons = LateLinks { linked };
-        add_chain(alloc, text, self.last, &reasons, built_in, chain)
+        add_chain(alloc, text, self.last, &reasons, self.board.built_in, chain)
     }
 
     // The lines of chains, of which these last: in the same order.
@@ -80,7 +76,6 @@ impl Boot<'_, '_> {
         &self,
         alloc: Global,
         text: &mut Vec<u8>,
-        built_in: BuiltIn,
         chains: &[Chain],
         lasting: &[Chain],
     ) -> Result<(), AllocError> {
@@ -89,70 +84,58 @@ impl Boot<'_, '_> {
             match lasting.get(next) {
                 Some(last) if are_of_one(chain, last) => {
                     next = next.wrapping_add(1);
-                    self.add_lasting(alloc, text, built_in, last)?;
+                    self.add_lasting(alloc, text, last)?;
                 }
-                _ => self.add_until(alloc, text, built_in, chain)?,
+                _ => self.add_until(alloc, text, chain)?,
             }
         }
         Ok(())
     }
 
     // Each device that waits when the timeout ends.
-    fn all(&self, alloc: Global, built_in: BuiltIn) -> Result<Waits, AllocError> {
-        let chains = waiting_chains(alloc, self.linked.plan(), self.before)?;
+    fn all(&self, alloc: Global) -> Result<Waits, AllocError> {
+        let chains = waiting_chains(alloc, self.board.linked.plan(), self.before)?;
         let lasting = waiting_chains(alloc, self.last, self.behind)?;
         let mut text = Vec::new(alloc);
-        self.add_all(
-            alloc,
-            &mut text,
-            built_in,
-            chains.as_slice(),
-            lasting.as_slice(),
-        )?;
+        self.add_all(alloc, &mut text, chains.as_slice(), lasting.as_slice())?;
+        self.add_lost(alloc, &mut text, b": ", None)?;
         let any = !lasting.is_empty();
         Ok(Waits { text, any })
     }
 
     // The line of one device.
-    fn add_one(
-        &self,
-        alloc: Global,
-        text: &mut Vec<u8>,
-        built_in: BuiltIn,
-        device: Device,
-    ) -> Result<(), AllocError> {
-        if self.linked.is_absent(device) {
-            add_path(text, self.linked.plan(), device)?;
+    fn add_one(&self, alloc: Global, text: &mut Vec<u8>, device: Device) -> Result<(), AllocError> {
+        if self.board.linked.is_absent(device) {
+            add_path(text, self.board.linked.plan(), device)?;
             return text.extend_from_slice(b": Linux makes no device of it\n");
         }
         if self.is_released(device) {
-            return match chain_in(alloc, self.linked.plan(), self.before, device)? {
-                Some(chain) => self.add_until(alloc, text, built_in, &chain),
+            return match chain_in(alloc, self.board.linked.plan(), self.before, device)? {
+                Some(chain) => self.add_until(alloc, text, &chain),
                 None => Ok(()),
             };
         }
         match chain_in(alloc, self.last, self.behind, device)? {
-            Some(chain) => self.add_lasting(alloc, text, built_in, &chain),
+            Some(chain) => self.add_lasting(alloc, text, &chain),
             None => Ok(()),
         }
     }
 
-    fn one(&self, alloc: Global, built_in: BuiltIn, device: Device) -> Result<Waits, AllocError> {
+    fn one(&self, alloc: Global, device: Device) -> Result<Waits, AllocError> {
         let mut text = Vec::new(alloc);
-        self.add_one(alloc, &mut text, built_in, device)?;
+        self.add_one(alloc, &mut text, device)?;
+        self.add_lost(alloc, &mut text, b": ", Some(device))?;
         let any = !self.is_bound(device);
         Ok(Waits { text, any })
     }
 
     // Of the device at a path, or else of all.
-    fn waits(&self, alloc: Global, built_in: BuiltIn, path: Option<&[u8]>) -> Result<Waits, Fault> {
+    fn waits(&self, alloc: Global, path: Option<&[u8]>) -> Result<Waits, Fault> {
         let Some(path) = path else {
-            return self.all(alloc, built_in).map_err(|_| Fault::no_memory());
+            return self.all(alloc).map_err(|_| Fault::no_memory());
         };
-        match device_at(self.linked.plan(), path) {
-            Some(device) => self
-                .one(alloc, built_in, device)
-                .map_err(|_| Fault::no_memory()),
+        match device_at(self.board.linked.plan(), path) {
+            Some(device) => self.one(alloc, device).map_err(|_| Fault::no_memory()),
             None => Err(no_device()),
         }
     }
@@ -161,23 +144,23 @@ impl Boot<'_, '_> {
 fn late_why<R: Threads + Sync>(
     rt: &R,
     alloc: Global,
-    linked: &Linked<'_>,
-    built_in: BuiltIn,
+    board: &LinkedBoard<'_, '_>,
     before: &[bool],
     seconds: u32,
     path: Option<&[u8]>,
 ) -> Result<Waits, Fault> {
     let until = until_text(alloc, seconds)?;
-    match end_of(rt, alloc, linked.late()) {
+    let last = board.linked.late();
+    match end_of(rt, alloc, last) {
         Ok(behind) => {
             let boot = Boot {
-                linked,
+                board,
                 before,
-                last: linked.late(),
+                last,
                 behind: behind.as_slice(),
                 until: until.as_slice(),
             };
-            boot.waits(alloc, built_in, path)
+            boot.waits(alloc, path)
         }
         Err(fault) => Err(fault),
     }
@@ -186,26 +169,24 @@ fn late_why<R: Threads + Sync>(
 fn why_by<R: Threads + Sync>(
     rt: &R,
     alloc: Global,
-    linked: &Linked<'_>,
-    built_in: BuiltIn,
+    board: &LinkedBoard<'_, '_>,
     bound: &[bool],
-    timeout: Timeout,
     path: Option<&[u8]>,
 ) -> Result<Waits, Fault> {
-    let seconds = match timeout {
+    let seconds = match board.timeout {
         Timeout::Seconds(seconds) => seconds,
         Timeout::Never => {
             let boot = Boot {
-                linked,
+                board,
                 before: bound,
-                last: linked.plan(),
+                last: board.linked.plan(),
                 behind: bound,
                 until: b"",
             };
-            return boot.waits(alloc, built_in, path);
+            return boot.waits(alloc, path);
         }
     };
-    late_why(rt, alloc, linked, built_in, bound, seconds, path)
+    late_why(rt, alloc, board, bound, seconds, path)
 }
 
 /// Why the device at a path isn't bound in the end, or, where none is named, why each device that waits when the timeout ends does. One
@@ -213,13 +194,11 @@ fn why_by<R: Threads + Sync>(
 pub(crate) fn boot_why<R: Threads + Sync>(
     rt: &R,
     alloc: Global,
-    linked: &Linked<'_>,
-    built_in: BuiltIn,
-    timeout: Timeout,
+    board: &LinkedBoard<'_, '_>,
     path: Option<&[u8]>,
 ) -> Result<Waits, Fault> {
-    match end_of(rt, alloc, linked.plan()) {
-        Ok(bound) => why_by(rt, alloc, linked, built_in, bound.as_slice(), timeout, path),
+    match end_of(rt, alloc, board.linked.plan()) {
+        Ok(bound) => why_by(rt, alloc, board, bound.as_slice(), path),
         Err(fault) => Err(fault),
     }
 }

@@ -6,6 +6,7 @@ mod boots;
 mod built_in;
 mod by_links;
 mod chain_text;
+mod disabled;
 mod end;
 mod installed;
 mod late;

@@ -1,4 +1,5 @@
 //! What the command line means, and what the program does with files and standard output over memory.
+mod by_links;
 mod checking;
 mod clock_and_uart;
 mod compiling;
