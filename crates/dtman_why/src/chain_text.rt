@@ -46,7 +46,8 @@ fn add_left_out(text: &mut Vec<u8>, built_in: BuiltIn) -> Result<(), AllocError>
     }
 }
 
-fn add_cause(
+/// Puts why a device isn't bound behind its path, or that it is.
+pub fn add_cause(
     text: &mut Vec<u8>,
     plan: &Plan,
     built_in: BuiltIn,

@@ -1,5 +1,6 @@
 //! Why devices wait, until Linux's timeout ends and behind it, as text.
 
+use crate::causes::add_causes;
 use crate::chain_text::{add_chain, add_path, add_waits};
 use crate::end::end_of;
 use crate::late::{Boot, LinkedBoard, until_text};
@@ -97,6 +98,8 @@ impl Boot<'_, '_> {
         let chains = waiting_chains(alloc, self.board.linked.plan(), self.before)?;
         let lasting = waiting_chains(alloc, self.last, self.behind)?;
         let mut text = Vec::new(alloc);
+        let (plan, built_in) = (self.board.linked.plan(), self.board.built_in);
+        add_causes(alloc, &mut text, plan, built_in, chains.as_slice())?;
         self.add_all(alloc, &mut text, chains.as_slice(), lasting.as_slice())?;
         self.add_lost(alloc, &mut text, b": ", None)?;
         let any = !lasting.is_empty();

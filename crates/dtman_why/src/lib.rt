@@ -5,6 +5,7 @@ mod answers;
 mod boots;
 mod built_in;
 mod by_links;
+mod causes;
 mod chain_text;
 mod disabled;
 mod end;

@@ -2,6 +2,7 @@
 
 ghost use Rattle.std.specs.Prelude.{◌<◌, length, IfSome};
 
+use crate::causes::add_causes;
 use crate::chain_text::add_chain;
 use crate::end::end_of;
 use crate::reasons::{BuiltIn, Reasons};
@@ -65,6 +66,7 @@ fn all<S: Reasons>(
 ) -> Result<Waits, AllocError> {
     let chains = waiting_chains(alloc, plan, bound)?;
     let mut text = Vec::new(alloc);
+    add_causes(alloc, &mut text, plan, built_in, chains.as_slice())?;
     for chain in &chains {
         add_chain(alloc, &mut text, plan, reasons, built_in, chain)?;
     }

@@ -1,5 +1,6 @@
 //! What the command line means, and what the program does with files and standard output over memory.
 mod by_links;
+mod causes;
 mod checking;
 mod clock_and_uart;
 mod compiling;
