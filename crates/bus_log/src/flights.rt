@@ -1,15 +1,26 @@
 //! The flights of a boot, and the events that stand behind the end of another one.
 
 use crate::node_name::{is_below, path_at};
-use bus_plan::{Device, Plan};
+use bus_plan::{Device, Plan, Verdict};
 use std::alloc::{AllocError, Global};
 
 /// A line of a schedule.
-#[derive(Clone, Copy, Debug)]
+#[derive(Clone, Copy, Debug, PartialEq, Eq)]
 pub enum Line {
     Begin,
     Settled,
     Abandon,
+    /// The probe failed for good.
+    Failed,
+}
+
+/// How far a device has come.
+#[derive(Clone, Copy, Debug, PartialEq, Eq)]
+enum Stage {
+    /// No probe of it has ended.
+    Untried,
+    Ended,
+    Settled,
 }
 
 #[derive(Clone, Copy, Debug)]
@@ -24,20 +35,52 @@ struct Event {
 pub struct Flights {
     open: Vec<Device>,
     held: Vec<Vec<Event>>,
-    /// Whether a probe of each device has ended.
-    ended: Vec<bool>,
+    /// How far each device has come.
+    stages: Vec<Stage>,
     text: Vec<u8>,
 }
 
-fn write(text: &mut Vec<u8>, plan: &Plan, event: Event) -> Result<(), AllocError> {
-    let (front, back) = match event.line {
-        Line::Begin => (b"begin ".as_slice(), b"\n".as_slice()),
-        Line::Settled => (b"finish ".as_slice(), b" settled\n".as_slice()),
-        Line::Abandon => (b"abandon ".as_slice(), b"\n".as_slice()),
-    };
+// A line of a path between two texts.
+fn write_line(
+    text: &mut Vec<u8>,
+    front: &[u8],
+    path: &[u8],
+    back: &[u8],
+) -> Result<(), AllocError> {
     text.extend_from_slice(front)?;
-    text.extend_from_slice(path_at(plan, event.device))?;
+    text.extend_from_slice(path)?;
     text.extend_from_slice(back)
+}
+
+// A failed probe of a device that the bus would take to be bound is abandoned, and a comment says what the plan lacks.
+fn write(text: &mut Vec<u8>, plan: &Plan, event: Event) -> Result<(), AllocError> {
+    let path = path_at(plan, event.device);
+    match event.line {
+        Line::Begin => write_line(text, b"begin ", path, b"\n"),
+        Line::Settled => write_line(text, b"finish ", path, b" settled\n"),
+        Line::Abandon => write_line(text, b"abandon ", path, b"\n"),
+        Line::Failed => {
+            write_line(text, b"# fail ", path, b"\n")?;
+            write_line(text, b"abandon ", path, b"\n")
+        }
+    }
+}
+
+// The line that ends a probe of a device: one that fails by the plan, too, settles.
+fn ending(plan: &Plan, device: Device, line: Line) -> Line {
+    let fails = device.index() < plan.len() && plan.verdict(device) == Verdict::Fails;
+    if line == Line::Failed && fails {
+        return Line::Settled;
+    }
+    line
+}
+
+// How a probe of a device ends by its line.
+fn stage_of(line: Line) -> Stage {
+    match line {
+        Line::Settled => Stage::Settled,
+        Line::Begin | Line::Abandon | Line::Failed => Stage::Ended,
+    }
 }
 
 fn suppliers_at<'p>(plan: &'p Plan, device: Device) -> &'p [Device] {
@@ -57,7 +100,7 @@ impl Flights {
         Ok(Self {
             open: Vec::new(alloc),
             held,
-            ended: vec![in alloc; false; count]?,
+            stages: vec![in alloc; Stage::Untried; count]?,
             text: Vec::new(alloc),
         })
     }
@@ -69,9 +112,9 @@ impl Flights {
             .any(|other| other.index() == device.index())
     }
 
-    /// The device whose probe began last and hasn't ended.
-    pub fn last(&self) -> Option<Device> {
-        self.open.last().copied()
+    /// Whether a device has settled: the bus has no way back.
+    pub fn is_settled(&self, device: Device) -> bool {
+        matches!(self.stages.get(device.index()), Some(Stage::Settled))
     }
 
     // The last of the open flights of devices above this one.
@@ -123,14 +166,21 @@ impl Flights {
         line: Line,
     ) -> Result<(), AllocError> {
         self.open.retain(|other| other.index() != device.index());
+        let line = ending(plan, device, line);
         self.put(plan, Event { line, device })?;
-        self.follow(alloc, plan, device)
+        self.follow(alloc, plan, device, line)
     }
 
-    // What was held back for a device's end follows.
-    fn follow(&mut self, alloc: Global, plan: &Plan, device: Device) -> Result<(), AllocError> {
-        if let Some(has_ended) = self.ended.get_mut(device.index()) {
-            *has_ended = true;
+    // What was held back for a device's end by this line follows.
+    fn follow(
+        &mut self,
+        alloc: Global,
+        plan: &Plan,
+        device: Device,
+        line: Line,
+    ) -> Result<(), AllocError> {
+        if let Some(stage) = self.stages.get_mut(device.index()) {
+            *stage = stage_of(line);
         }
         let held = self.let_go(alloc, device);
         for event in &held {
@@ -143,7 +193,7 @@ impl Flights {
     fn awaited(&self, plan: &Plan, device: Device) -> Option<Device> {
         let path = path_at(plan, device);
         for supplier in suppliers_at(plan, device) {
-            let is_awaited = matches!(self.ended.get(supplier.index()), Some(false));
+            let is_awaited = matches!(self.stages.get(supplier.index()), Some(Stage::Untried));
             if is_awaited && is_below(path, path_at(plan, *supplier)) {
                 return Some(*supplier);
             }
@@ -178,8 +228,9 @@ impl Flights {
                 device,
             },
         )?;
+        let line = ending(plan, device, line);
         self.put_late(plan, Event { line, device })?;
-        self.follow(alloc, plan, device)
+        self.follow(alloc, plan, device, line)
     }
 
     /// The text of the schedule so far, for a line that stands before what is held back.

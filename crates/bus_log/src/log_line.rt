@@ -1,19 +1,49 @@
-//! What a line of a kernel's log tells of a probe (Linux 6.1, drivers/base/dd.c, with its debug messages on).
+//! What a line of a kernel's log tells of a probe (Linux 6.1, drivers/base/dd.c and core.c, with their debug messages on).
 
+use crate::buses::Kind;
 use bstr::ByteSlice;
+
+/// The bus that a device stands on.
+#[derive(Clone, Copy, PartialEq, Eq, Debug)]
+pub enum Bus {
+    /// One whose devices are named by the tree.
+    Tree,
+    /// One that numbers its devices.
+    Of(Kind),
+    /// One whose devices have no nodes with names of their own.
+    Other,
+    Untold,
+}
 
 /// What happened to the device of this name.
 #[derive(Clone, Copy)]
 pub enum Told<'a> {
     /// A driver begins to probe it.
-    Probing { driver: &'a [u8], name: &'a [u8] },
-    Bound { name: &'a [u8] },
+    Probing {
+        bus: Bus,
+        driver: &'a [u8],
+        name: &'a [u8],
+    },
+    /// It is made.
+    Added {
+        name: &'a [u8],
+    },
+    Bound {
+        name: &'a [u8],
+    },
     /// Its probe ended with an error for good.
-    Failed { name: &'a [u8] },
+    Failed {
+        name: &'a [u8],
+    },
     /// Its probe is put off, or the driver doesn't want it.
-    GivenUp { name: &'a [u8] },
+    GivenUp {
+        name: &'a [u8],
+    },
     /// Its probe returned this number: 0 where it is bound.
-    Returned { name: &'a [u8], number: &'a [u8] },
+    Returned {
+        name: &'a [u8],
+        number: &'a [u8],
+    },
 }
 
 // What stands before the first space.
@@ -38,10 +68,36 @@ fn behind<'a>(line: &'a [u8], text: &[u8]) -> Option<&'a [u8]> {
     Some(rest)
 }
 
+// The kernel's name of a bus.
+fn bus_named(name: &[u8]) -> Bus {
+    match name {
+        b"platform" | b"amba" => Bus::Tree,
+        b"i2c" => Bus::Of(Kind::I2c),
+        b"spi" => Bus::Of(Kind::Spi),
+        b"serial" => Bus::Of(Kind::Serial),
+        b"mdio_bus" => Bus::Of(Kind::Mdio),
+        b"mmc" | b"sdio" => Bus::Of(Kind::Mmc),
+        _ => Bus::Other,
+    }
+}
+
+// What `bus: 'NAME': ` says before a message.
+fn bus_before(front: &[u8]) -> Bus {
+    let name = match behind(front, b"bus: '") {
+        Some(rest) => rest.split_once_str(b"': "),
+        None => None,
+    };
+    match name {
+        Some((name, _)) => bus_named(name),
+        None => Bus::Untold,
+    }
+}
+
 fn begun<'a>(line: &'a [u8]) -> Option<Told<'a>> {
-    let rest = behind(line, b"really_probe: probing driver ")?;
+    let (front, rest) = line.split_once_str(b"really_probe: probing driver ")?;
     let (driver, name) = rest.split_once_str(b" with device ")?;
     Some(Told::Probing {
+        bus: bus_before(front),
         driver,
         name: first_word(name),
     })
@@ -87,6 +143,16 @@ fn returned<'a>(line: &'a [u8]) -> Option<Told<'a>> {
     })
 }
 
+// `device: 'NAME': device_add`.
+fn added<'a>(line: &'a [u8]) -> Option<Told<'a>> {
+    let rest = behind(line, b"device: '")?;
+    let (name, message) = rest.rsplit_once_str(b"': ")?;
+    if !message.starts_with(b"device_add") {
+        return None;
+    }
+    Some(Told::Added { name })
+}
+
 /// What a line tells, if it tells of a probe.
 pub fn read_log_line<'a>(line: &'a [u8]) -> Option<Told<'a>> {
     if let Some(told) = begun(line) {
@@ -99,6 +165,9 @@ pub fn read_log_line<'a>(line: &'a [u8]) -> Option<Told<'a>> {
         return Some(told);
     }
     if let Some(told) = put_off(line) {
+        return Some(told);
+    }
+    if let Some(told) = added(line) {
         return Some(told);
     }
     returned(line)

@@ -1,115 +1,38 @@
 //! Which device of a plan the kernel's name of a device stands for.
 
-use crate::node_name::{base_name, is_below, last_name, name_above, path_at, unit_address};
+use crate::address::hex_number;
+use crate::buses::{KINDS, Kind, Spot};
+use crate::log_line::Bus;
+use crate::makers::Makers;
+use crate::node_name::{base_name, is_below, last_name, path_at};
+use crate::nodes::{Nodes, device_above, replaced};
+use crate::words::{has_words, is_same_name, stem};
 use bstr::ByteSlice;
 use bus_plan::{Device, PathIndex, Plan};
 use std::alloc::{AllocError, Global};
 use std::hash::RandomState;
 
+/// How many of the devices that a name may stand for are looked at.
+const MOST_TRIED: usize = 64;
+
 /// The names that were met, and the devices that they stand for.
 #[derive(Drop)]
 pub struct Names {
-    /// The paths of the plan's devices as the kernel joins them, with the devices.
-    joined: PathIndex,
-    joined_devices: Vec<Device>,
-    /// The names without unit addresses, with the devices that have them.
-    bases: PathIndex,
-    base_devices: Vec<Vec<Device>>,
+    nodes: Nodes,
+    makers: Makers,
     met: PathIndex,
     met_devices: Vec<Option<Device>>,
     /// Whether a name stands for each device.
     taken: Vec<bool>,
 }
 
-// `/a/b` as `a:b`, and the other way round.
-fn replaced(alloc: Global, text: &[u8], from: u8, to: u8) -> Result<Vec<u8>, AllocError> {
-    let mut bytes = Vec::with_capacity(alloc, text.len())?;
-    for byte in text {
-        bytes.push(if *byte == from { to } else { *byte })?;
-    }
-    Ok(bytes)
-}
-
-// A path without its first slash.
-fn without_slash<'p>(path: &'p [u8]) -> &'p [u8] {
-    match path.strip_prefix(b"/") {
-        Some(rest) => rest,
-        None => path,
-    }
-}
-
-// Without the zeros in front; of zeros alone one is left.
-fn without_zeros<'n>(number: &'n [u8]) -> &'n [u8] {
-    let mut rest = number;
-    while let Some(less) = rest.strip_prefix(b"0") {
-        if less.is_empty() {
-            return rest;
-        }
-        rest = less;
-    }
-    rest
-}
-
-// How well an address of the machine fits a unit address: the same best, else the more of its last digits the better.
-fn fit(address: &[u8], unit: &[u8]) -> Option<usize> {
-    if address == unit {
-        return Some(usize::MAX);
-    }
-    if !unit.is_empty() && address.ends_with(unit) {
-        return Some(unit.len());
-    }
-    None
-}
-
-// Of these devices the one whose unit address fits best, or the only one.
-fn best_of(plan: &Plan, devices: &[Device], address: &[u8]) -> Option<Device> {
-    if let [only] = devices {
-        return Some(*only);
-    }
-    let mut best = None;
-    let mut most = 0;
-    for device in devices {
-        let unit = unit_address(last_name(path_at(plan, *device)));
-        if let Some(fit) = fit(address, unit) {
-            if fit > most {
-                most = fit;
-                best = Some(*device);
-            }
-        }
-    }
-    best
-}
-
-// The only device at this unit address whose bus has such a name.
-fn only_at(plan: &Plan, unit: &[u8], bus: &[u8]) -> Option<Device> {
-    let mut found = None;
-    for place in 0..plan.len() {
-        let device = Device::new(place);
-        let path = path_at(plan, device);
-        if unit_address(last_name(path)) == unit && name_above(path).find(bus).is_some() {
-            if found.is_some() {
-                return None;
-            }
-            found = Some(device);
-        }
-    }
-    found
-}
-
-// `1-0068`, the device at address 68 of an i2c bus.
-fn on_i2c(plan: &Plan, name: &[u8]) -> Option<Device> {
-    let (_, address) = name.split_once_str(b"-")?;
-    if address.len() != 4 {
-        return None;
-    }
-    only_at(plan, without_zeros(address), b"i2c")
-}
-
-// `spi0.1`, the device at chip select 1 of an spi bus.
-fn on_spi(plan: &Plan, name: &[u8]) -> Option<Device> {
-    let rest = name.strip_prefix(b"spi")?;
-    let (_, select) = rest.split_once_str(b".")?;
-    only_at(plan, select, b"spi")
+/// A device as a message names it, the driver that probes it, and the device that is probed meanwhile.
+#[derive(Clone, Copy)]
+pub struct Named<'n> {
+    pub bus: Bus,
+    pub name: &'n [u8],
+    pub driver: &'n [u8],
+    pub within: Option<Device>,
 }
 
 fn mark(marks: &mut [bool], place: usize) {
@@ -118,67 +41,46 @@ fn mark(marks: &mut [bool], place: usize) {
     }
 }
 
+// Whether a name is one that the tree makes, by an address or a path.
+fn is_of_tree(name: &[u8]) -> bool {
+    if name.contains(&b':') {
+        return true;
+    }
+    match name.split_once_str(b".") {
+        Some((front, _)) => hex_number(front).is_some(),
+        None => false,
+    }
+}
+
+fn has_driver(plan: &Plan, device: Device, driver: &[u8]) -> bool {
+    if device.index() >= plan.len() {
+        return false;
+    }
+    match plan.driver(device) {
+        Some(name) => is_same_name(name.as_bytes(), driver),
+        None => false,
+    }
+}
+
+fn is_available(plan: &Plan, device: Device) -> bool {
+    device.index() < plan.len() && plan.available(device)
+}
+
 impl Names {
     /// None met yet, of the devices of this plan.
     pub fn new(alloc: Global, hasher: RandomState, count: usize) -> Result<Self, AllocError> {
         Ok(Self {
-            joined: PathIndex::new(alloc, hasher),
-            joined_devices: Vec::new(alloc),
-            bases: PathIndex::new(alloc, hasher),
-            base_devices: Vec::new(alloc),
+            nodes: Nodes::new(alloc, hasher, count)?,
+            makers: Makers::new(alloc, hasher),
             met: PathIndex::new(alloc, hasher),
             met_devices: Vec::new(alloc),
             taken: vec![in alloc; false; count]?,
         })
     }
 
-    /// Takes in the paths of the plan's devices.
+    /// Takes in the plan's devices.
     pub fn fill(&mut self, alloc: Global, plan: &Plan) -> Result<(), AllocError> {
-        for place in 0..plan.len() {
-            let device = Device::new(place);
-            let path = path_at(plan, device);
-            self.add_joined(alloc, path, device)?;
-            self.add_base(alloc, base_name(last_name(path)), device)?;
-        }
-        Ok(())
-    }
-
-    fn add_joined(&mut self, alloc: Global, path: &[u8], device: Device) -> Result<(), AllocError> {
-        let name = replaced(alloc, without_slash(path), b'/', b':')?;
-        if self.joined.contains(name.as_slice()) {
-            return Ok(());
-        }
-        self.joined.add(alloc, name.as_slice())?;
-        self.joined_devices.push(device)?;
-        Ok(())
-    }
-
-    fn add_base(&mut self, alloc: Global, base: &[u8], device: Device) -> Result<(), AllocError> {
-        if let Some(place) = self.bases.position(base) {
-            if let Some(devices) = self.base_devices.get_mut(place) {
-                devices.push(device)?;
-            }
-            return Ok(());
-        }
-        self.bases.add(alloc, base)?;
-        let mut devices = Vec::new(alloc);
-        devices.push(device)?;
-        self.base_devices.push(devices)?;
-        Ok(())
-    }
-
-    // `a@0:b`, the names of a path.
-    fn at_path(&self, name: &[u8]) -> Option<Device> {
-        let place = self.joined.position(name)?;
-        self.joined_devices.get(place).copied()
-    }
-
-    // `10000000.serial`, the device of this name at an address.
-    fn at_address(&self, plan: &Plan, name: &[u8]) -> Option<Device> {
-        let (address, base) = name.split_once_str(b".")?;
-        let place = self.bases.position(base)?;
-        let devices = self.base_devices.get(place)?;
-        best_of(plan, devices.as_slice(), address)
+        self.nodes.fill(alloc, plan)
     }
 
     // `10000000.serial:a:b`, a path that begins at an address.
@@ -191,7 +93,7 @@ impl Names {
         let Some((front, rest)) = name.split_once_str(b":") else {
             return Ok(None);
         };
-        let Some(device) = self.at_address(plan, front) else {
+        let Some(device) = self.nodes.at_address(front) else {
             return Ok(None);
         };
         let mut path = Vec::from_slice(alloc, path_at(plan, device))?;
@@ -201,75 +103,206 @@ impl Names {
         Ok(plan.device(path.as_slice()))
     }
 
+    // Whether no name stands for a device that may be probed.
+    fn is_free(&self, plan: &Plan, device: Device) -> bool {
+        matches!(self.taken.get(device.index()), Some(false)) && is_available(plan, device)
+    }
+
     // A device that another's probe makes has a name of its own: it is the first of its driver's below that other one that no name
-    // stands for.
-    fn made_within(&self, plan: &Plan, driver: &[u8], above: &[u8]) -> Option<Device> {
-        for place in 0..plan.len() {
-            let device = Device::new(place);
-            let is_free = matches!(self.taken.get(place), Some(false));
-            if is_free && is_below(path_at(plan, device), above) {
-                if let Some(name) = plan.driver(device) {
-                    if name.as_bytes() == driver {
-                        return Some(device);
-                    }
-                }
+    // stands for, or else the first whose node's name is among the words of its name.
+    fn made_by(&self, plan: &Plan, named: &Named<'_>, maker: Device) -> Option<Device> {
+        let below = self.nodes.below(maker);
+        let of_driver = below.iter().take(MOST_TRIED).find(|device| has_driver(
+            plan,
+            **device,
+            named.driver,
+        ) && self.is_free(plan, **device));
+        if let Some(device) = of_driver {
+            return Some(*device);
+        }
+        below
+            .iter()
+            .take(MOST_TRIED)
+            .find(|device| {
+                let node = base_name(last_name(path_at(plan, **device)));
+                has_words(stem(named.name), node) && self.is_free(plan, **device)
+            })
+            .copied()
+    }
+
+    // A name of a device of the tree, or of one that such a device's driver makes.
+    fn in_tree(
+        &self,
+        alloc: Global,
+        plan: &Plan,
+        named: &Named<'_>,
+    ) -> Result<Option<Device>, AllocError> {
+        if let Some(device) = self.nodes.at_path(named.name) {
+            return Ok(Some(device));
+        }
+        if let Some(device) = self.nodes.at_address(named.name) {
+            return Ok(Some(device));
+        }
+        if let Some(device) = self.below_address(alloc, plan, named.name)? {
+            return Ok(Some(device));
+        }
+        if is_of_tree(named.name) {
+            return Ok(None);
+        }
+        match self.makers.of(named.name).or(named.within) {
+            Some(maker) => Ok(self.made_by(plan, named, maker)),
+            None => Ok(None),
+        }
+    }
+
+    // Of the devices at one place of several buses the first below a device.
+    fn below_of(&self, plan: &Plan, devices: &[Device], above: Device) -> Option<Device> {
+        let path = path_at(plan, above);
+        devices
+            .iter()
+            .take(MOST_TRIED)
+            .find(|device| is_below(path_at(plan, **device), path) && self.is_free(plan, **device))
+            .copied()
+    }
+
+    // Of them the only one that this driver is for or, where it is for none of them, the only one.
+    fn only_of(&self, plan: &Plan, devices: &[Device], driver: &[u8]) -> Option<Device> {
+        let mut free = devices
+            .iter()
+            .take(MOST_TRIED)
+            .filter(|device| self.is_free(plan, **device));
+        let first = free.next().copied()?;
+        let Some(second) = free.next().copied() else {
+            return Some(first);
+        };
+        let mut of_driver = devices.iter().take(MOST_TRIED).filter(|device| has_driver(
+            plan, **device, driver,
+        ) && self.is_free(plan, **device));
+        match (of_driver.next(), of_driver.next()) {
+            (Some(only), None) => Some(*only),
+            _ => None,
+        }
+    }
+
+    // A name on a bus that numbers its devices.
+    fn on_bus(
+        &self,
+        alloc: Global,
+        plan: &Plan,
+        named: &Named<'_>,
+        kind: Kind,
+    ) -> Result<Option<Device>, AllocError> {
+        let Some(spot) = Spot::of(kind, named.name) else {
+            return Ok(None);
+        };
+        let bus = spot.bus(alloc)?;
+        let devices = self.nodes.at_spot(alloc, &spot)?;
+        if let Some(maker) = self.makers.of(bus.as_slice()) {
+            return Ok(self.below_of(plan, devices, maker));
+        }
+        if let Some(maker) = self.makers.of(named.name).or(named.within) {
+            if let Some(device) = self.below_of(plan, devices, maker) {
+                return Ok(Some(device));
             }
         }
-        None
+        Ok(self.only_of(plan, devices, named.driver))
+    }
+
+    // A name of which no message tells the bus.
+    fn anywhere(
+        &self,
+        alloc: Global,
+        plan: &Plan,
+        named: &Named<'_>,
+    ) -> Result<Option<Device>, AllocError> {
+        if let Some(device) = self.in_tree(alloc, plan, named)? {
+            return Ok(Some(device));
+        }
+        for kind in KINDS {
+            if let Some(device) = self.on_bus(alloc, plan, named, kind)? {
+                return Ok(Some(device));
+            }
+        }
+        Ok(None)
     }
 
     fn found(
         &self,
         alloc: Global,
         plan: &Plan,
-        name: &[u8],
-        driver: &[u8],
-        above: &[u8],
+        named: &Named<'_>,
     ) -> Result<Option<Device>, AllocError> {
-        if let Some(device) = self.at_path(name) {
-            return Ok(Some(device));
+        match named.bus {
+            Bus::Tree => self.in_tree(alloc, plan, named),
+            Bus::Of(kind) => self.on_bus(alloc, plan, named, kind),
+            Bus::Other => Ok(None),
+            Bus::Untold => self.anywhere(alloc, plan, named),
         }
-        if let Some(device) = self.at_address(plan, name) {
-            return Ok(Some(device));
+    }
+
+    // The bus of a device whose name is known is that of the others that have its number.
+    fn learn_bus(
+        &mut self,
+        alloc: Global,
+        plan: &Plan,
+        named: &Named<'_>,
+        device: Device,
+    ) -> Result<(), AllocError> {
+        let Bus::Of(kind) = named.bus else {
+            return Ok(());
+        };
+        let (Some(spot), Some(above)) = (
+            Spot::of(kind, named.name),
+            device_above(plan, path_at(plan, device)),
+        ) else {
+            return Ok(());
+        };
+        let bus = spot.bus(alloc)?;
+        if self.makers.of(bus.as_slice()).is_some() {
+            return Ok(());
         }
-        if let Some(device) = self.below_address(alloc, plan, name)? {
-            return Ok(Some(device));
-        }
-        if let Some(device) = on_i2c(plan, name) {
-            return Ok(Some(device));
-        }
-        if let Some(device) = on_spi(plan, name) {
-            return Ok(Some(device));
-        }
-        Ok(self.made_within(plan, driver, above))
+        self.makers.set(alloc, bus.as_slice(), above)
+    }
+
+    /// The number of a name that was met before, from 0.
+    pub fn number(&self, name: &[u8]) -> Option<usize> {
+        self.met.position(name)
+    }
+
+    /// How many were met.
+    pub fn count(&self) -> usize {
+        self.met_devices.len()
+    }
+
+    /// The device that the name of a number stands for.
+    pub fn device(&self, number: usize) -> Option<Device> {
+        let device = self.met_devices.get(number)?;
+        *device
     }
 
     /// The device that a name stands for, where the name was met before.
     pub fn known(&self, name: &[u8]) -> Option<Device> {
-        let place = self.met.position(name)?;
-        let device = self.met_devices.get(place)?;
-        *device
+        self.device(self.number(name)?)
     }
 
-    /// Whether a name was met before.
-    pub fn is_met(&self, name: &[u8]) -> bool {
-        self.met.contains(name)
+    /// A device of this name is made while another is probed.
+    pub fn add(&mut self, alloc: Global, name: &[u8], maker: Device) -> Result<(), AllocError> {
+        self.makers.set(alloc, name, maker)
     }
 
-    /// Meets a new name, of a device that this driver probes while the device at this path is probed, if one is.
+    /// Meets a new name.
     pub fn meet(
         &mut self,
         alloc: Global,
         plan: &Plan,
-        name: &[u8],
-        driver: &[u8],
-        above: &[u8],
+        named: &Named<'_>,
     ) -> Result<Option<Device>, AllocError> {
-        let device = self.found(alloc, plan, name, driver, above)?;
-        self.met.add(alloc, name)?;
+        let device = self.found(alloc, plan, named)?;
+        self.met.add(alloc, named.name)?;
         self.met_devices.push(device)?;
         if let Some(device) = &device {
             mark(self.taken.as_mut_slice(), device.index());
+            self.learn_bus(alloc, plan, named, *device)?;
         }
         Ok(device)
     }

@@ -19,12 +19,17 @@ pub fn last_name<'p>(path: &'p [u8]) -> &'p [u8] {
     }
 }
 
-/// The last name but one.
-pub fn name_above<'p>(path: &'p [u8]) -> &'p [u8] {
+/// The path without its last name.
+pub fn path_above<'p>(path: &'p [u8]) -> &'p [u8] {
     match path.rsplit_once_str(b"/") {
-        Some((above, _)) => last_name(above),
+        Some((above, _)) => above,
         None => b"".as_slice(),
     }
+}
+
+/// The last name but one.
+pub fn name_above<'p>(path: &'p [u8]) -> &'p [u8] {
+    last_name(path_above(path))
 }
 
 /// The name before its unit address.

@@ -1,20 +1,30 @@
 //! A log as a schedule.
 
+use crate::binders::Binders;
 use crate::flights::{Flights, Line};
 use crate::late::LateDrivers;
-use crate::log_line::{Told, read_log_line};
-use crate::naming::Names;
-use crate::node_name::path_at;
+use crate::log_line::{Bus, Told, read_log_line};
+use crate::naming::{Named, Names};
 use bus_plan::{Device, Plan, lines_of};
 use std::alloc::{AllocError, Global};
 use std::hash::RandomState;
 
-/// A name that stands for no device of the plan.
+/// Why a name is left out.
+#[derive(Clone, Copy, Debug, PartialEq, Eq)]
+pub enum Reason {
+    /// It stands for no device of the plan.
+    Unknown,
+    /// The device is switched off in the plan.
+    SwitchedOff,
+}
+
+/// A name that is left out.
 #[derive(Clone, Copy)]
 pub struct Unplaced<'a> {
     /// The line where it was met, from 1.
     pub line: usize,
     pub name: &'a [u8],
+    pub reason: Reason,
 }
 
 /// The text of a schedule, and the names that it leaves out.
@@ -28,6 +38,7 @@ pub struct Traced<'a> {
 #[derive(Drop)]
 struct Trace<'a> {
     names: Names,
+    binders: Binders,
     flights: Flights,
     late: LateDrivers,
     /// Whether the log has told the end of each device's last probe, and not yet what it returned.
@@ -35,37 +46,81 @@ struct Trace<'a> {
     unplaced: Vec<Unplaced<'a>>,
 }
 
-// How a probe ended that returned this number: 517 is the kernel's word for later, 6 and 19 those of a driver that doesn't want the device.
-fn end_by(code: &[u8]) -> Option<Line> {
+// How a probe ended that returned this number: 517 is the kernel's word for later, 6 and 19 those of a driver that doesn't want the
+// device. A negative one is of a probe that was given up before its driver saw the device.
+fn end_by(code: &[u8]) -> Line {
     match code {
-        b"517" | b"6" | b"19" => Some(Line::Abandon),
-        _ if code.starts_with(b"-") => None,
-        _ => Some(Line::Settled),
+        b"0" => Line::Settled,
+        b"517" | b"-517" | b"6" | b"19" => Line::Abandon,
+        _ => Line::Failed,
     }
 }
 
+fn is_available(plan: &Plan, device: Device) -> bool {
+    device.index() < plan.len() && plan.available(device)
+}
+
+// Why what a name stands for is left out, if it is.
+fn reason_of(plan: &Plan, device: &Option<Device>) -> Option<Reason> {
+    match device {
+        None => Some(Reason::Unknown),
+        Some(device) if !is_available(plan, *device) => Some(Reason::SwitchedOff),
+        Some(_) => None,
+    }
+}
+
+// What a line tells of a probe.
+#[derive(Clone, Copy)]
+struct Probed<'a> {
+    bus: Bus,
+    driver: &'a [u8],
+    name: &'a [u8],
+}
+
 impl<'a> Trace<'a> {
+    // The device that is probed while a line is told, where a name placed it.
+    fn within(&self) -> Option<Device> {
+        self.names.device(self.binders.innermost()?)
+    }
+
+    fn meet(
+        &mut self,
+        alloc: Global,
+        plan: &Plan,
+        told: Probed<'a>,
+    ) -> Result<Option<Device>, AllocError> {
+        let named = Named {
+            bus: told.bus,
+            name: told.name,
+            driver: told.driver,
+            within: self.within(),
+        };
+        self.names.meet(alloc, plan, &named)
+    }
+
     // The device of a name that a driver probes.
     fn device_of(
         &mut self,
         alloc: Global,
         plan: &Plan,
         number: usize,
-        name: &'a [u8],
-        driver: &[u8],
+        told: Probed<'a>,
     ) -> Result<Option<Device>, AllocError> {
-        if self.names.is_met(name) {
+        let name = told.name;
+        if self.names.number(name).is_some() {
             return Ok(self.names.known(name));
         }
-        let above = match self.flights.last() {
-            Some(device) => path_at(plan, device),
-            None => b"".as_slice(),
-        };
-        let device = self.names.meet(alloc, plan, name, driver, above)?;
-        if device.is_none() {
-            self.unplaced.push(Unplaced { line: number, name })?;
+        let device = self.meet(alloc, plan, told)?;
+        self.binders.grow(self.names.count())?;
+        if let Some(reason) = reason_of(plan, &device) {
+            self.leave_out(number, name, reason)?;
         }
         Ok(device)
+    }
+
+    fn leave_out(&mut self, line: usize, name: &'a [u8], reason: Reason) -> Result<(), AllocError> {
+        self.unplaced.push(Unplaced { line, name, reason })?;
+        Ok(())
     }
 
     // Has a device that the plan has no driver for get the one that the kernel probed it by.
@@ -134,7 +189,8 @@ impl<'a> Trace<'a> {
         self.flights.pass(alloc, plan, device, line)
     }
 
-    // A line that tells what a probe returned. Before a probe whose suppliers aren't there the kernel turns back, by a negative number.
+    // A line that tells what a probe returned. Before a probe whose suppliers aren't there the kernel turns back, by a negative number:
+    // nothing has begun then.
     fn read_return(
         &mut self,
         alloc: Global,
@@ -143,11 +199,72 @@ impl<'a> Trace<'a> {
         name: &'a [u8],
         code: &[u8],
     ) -> Result<(), AllocError> {
-        let Some(line) = end_by(code) else {
-            return Ok(());
+        let line = end_by(code);
+        if code.starts_with(b"-") {
+            return match self.names.known(name) {
+                Some(device) if self.flights.is_open(device) => {
+                    self.flights.end(alloc, plan, device, line)
+                }
+                _ => Ok(()),
+            };
+        }
+        let told = Probed {
+            bus: Bus::Untold,
+            driver: b"".as_slice(),
+            name,
         };
-        match self.device_of(alloc, plan, number, name, b"")? {
-            Some(device) => self.pass(alloc, plan, device, line),
+        match self.device_of(alloc, plan, number, told)? {
+            Some(device) if self.is_open_to(plan, device) => self.pass(alloc, plan, device, line),
+            _ => Ok(()),
+        }
+    }
+
+    fn read_begin(
+        &mut self,
+        alloc: Global,
+        plan: &Plan,
+        number: usize,
+        told: Probed<'a>,
+    ) -> Result<(), AllocError> {
+        let device = self.device_of(alloc, plan, number, told)?;
+        if let Some(place) = self.names.number(told.name) {
+            self.binders.begin(place)?;
+        }
+        match device {
+            Some(device) if self.is_open_to(plan, device) => {
+                self.give(alloc, plan, device, told.driver)?;
+                self.begin(alloc, plan, device)
+            }
+            _ => Ok(()),
+        }
+    }
+
+    // Whether the bus may probe a device: it is switched on, and hasn't settled.
+    fn is_open_to(&self, plan: &Plan, device: Device) -> bool {
+        is_available(plan, device) && !self.flights.is_settled(device)
+    }
+
+    // The probe of a name runs no more.
+    fn close(&mut self, name: &[u8]) {
+        if let Some(place) = self.names.number(name) {
+            self.binders.end(place);
+        }
+    }
+
+    fn read_end(
+        &mut self,
+        alloc: Global,
+        plan: &Plan,
+        name: &[u8],
+        line: Line,
+    ) -> Result<(), AllocError> {
+        self.close(name);
+        self.end(alloc, plan, name, line)
+    }
+
+    fn read_added(&mut self, alloc: Global, name: &[u8]) -> Result<(), AllocError> {
+        match self.within() {
+            Some(maker) => self.names.add(alloc, name, maker),
             None => Ok(()),
         }
     }
@@ -160,21 +277,17 @@ impl<'a> Trace<'a> {
         line: &'a [u8],
     ) -> Result<(), AllocError> {
         match read_log_line(line) {
-            Some(Told::Probing { driver, name }) => {
-                match self.device_of(alloc, plan, number, name, driver)? {
-                    Some(device) => {
-                        self.give(alloc, plan, device, driver)?;
-                        self.begin(alloc, plan, device)
-                    }
-                    None => Ok(()),
-                }
+            Some(Told::Probing { bus, driver, name }) => {
+                self.read_begin(alloc, plan, number, Probed { bus, driver, name })
             }
+            Some(Told::Added { name }) => self.read_added(alloc, name),
             Some(Told::Returned { name, number: code }) => {
+                self.close(name);
                 self.read_return(alloc, plan, number, name, code)
             }
-            Some(Told::Bound { name }) => self.end(alloc, plan, name, Line::Settled),
-            Some(Told::Failed { name }) => self.end(alloc, plan, name, Line::Settled),
-            Some(Told::GivenUp { name }) => self.end(alloc, plan, name, Line::Abandon),
+            Some(Told::Bound { name }) => self.read_end(alloc, plan, name, Line::Settled),
+            Some(Told::Failed { name }) => self.read_end(alloc, plan, name, Line::Failed),
+            Some(Told::GivenUp { name }) => self.read_end(alloc, plan, name, Line::Abandon),
             None => Ok(()),
         }
     }
@@ -209,6 +322,7 @@ fn new_trace<'a>(
     let flights = Flights::new(alloc, count)?;
     Ok(Trace {
         names,
+        binders: Binders::new(alloc),
         flights,
         late: LateDrivers::new(alloc, hasher),
         told: vec![in alloc; false; count]?,
@@ -216,9 +330,10 @@ fn new_trace<'a>(
     })
 }
 
-/// A kernel's log as a schedule over a plan: each probe that the log tells of, of a device that its name places in the plan. A probe
-/// that is put off, or that the driver rejects, ends as `abandon`; one that ends with an error for good as `settled`. What happens
-/// within the probe of a device above stands behind the end of that one.
+/// A kernel's log as a schedule over a plan: each probe that the log tells of, of a device that its name places in the plan and that is
+/// switched on there, up to the one that settles it. A probe that is put off, or that the driver rejects, ends as `abandon`; one that
+/// ends with an error for good as `settled` where the driver fails by the plan, else as `abandon` behind a comment. What happens within
+/// the probe of a device above stands behind the end of that one.
 pub fn boot_schedule<'a>(
     alloc: Global,
     hasher: RandomState,
@@ -229,6 +344,7 @@ pub fn boot_schedule<'a>(
     read_trace(alloc, plan, &mut trace, log)?;
     let Trace {
         names: _,
+        binders: _,
         flights,
         late: _,
         told: _,

@@ -1,13 +1,13 @@
 //! A boot's log as a schedule, with the names that it leaves out.
 
 use crate::shown::add_shown;
-use bus_log::{Traced, Unplaced, boot_schedule};
+use bus_log::{Reason, Traced, Unplaced, boot_schedule};
 use bus_plan::read_plan;
 use dtman_engine::Fault;
 use std::alloc::{AllocError, Global};
 use std::hash::RandomState;
 
-/// A schedule, and a line for each name that stands for no device of the plan.
+/// A schedule, and a line for each name that is left out.
 #[derive(Drop)]
 pub struct Boot {
     pub schedule: Vec<u8>,
@@ -20,7 +20,11 @@ fn add_warning(
     unplaced: &Unplaced<'_>,
 ) -> Result<(), AllocError> {
     let line = unplaced.line;
-    let front = format!(in alloc; "warning: line {line}: no device of the plan is ")?;
+    let why = match unplaced.reason {
+        Reason::Unknown => "no device of the plan is",
+        Reason::SwitchedOff => "switched off in the plan is",
+    };
+    let front = format!(in alloc; "warning: line {line}: {why} ")?;
     text.extend_from_slice(front.as_bytes())?;
     add_shown(text, unplaced.name)?;
     text.push(b'\n')?;

@@ -6,6 +6,8 @@ mod boot_logs;
 #[cfg(test)]
 mod chains;
 #[cfg(test)]
+mod device_names;
+#[cfg(test)]
 mod modules;
 #[cfg(test)]
 mod orders;

@@ -1,18 +1,18 @@
 //! Kernel logs as schedules.
 
-use bus_log::{Unplaced, boot_schedule};
+use bus_log::{Reason, Unplaced, boot_schedule};
 use bus_plan::read_plan;
 use std::alloc::Global;
 use std::hash::RandomState;
 use std::process::Abort;
 
-// A plan, a log, the schedule, and the names that stand for no device.
-struct Row {
-    name: &'static str,
-    plan: &'static str,
-    log: &'static str,
-    schedule: &'static str,
-    unplaced: &'static str,
+/// A plan, a log, the schedule, and the names that are left out.
+pub struct Row {
+    pub name: &'static str,
+    pub plan: &'static str,
+    pub log: &'static str,
+    pub schedule: &'static str,
+    pub unplaced: &'static str,
 }
 
 const ROWS: &[Row] = &[
@@ -113,14 +113,55 @@ const FURTHER: &[Row] = &[
     },
 ];
 
+/// Rows of probes that fail, of those that are told of devices that have settled or are switched off, and of those that end before
+/// their driver has seen the device.
+const ENDS: &[Row] = &[
+    // wifi-pwrseq of a raspi3b: its driver answered -5. The bus would take it to be bound.
+    Row {
+        name: "failed",
+        plan: "/wifi-pwrseq pwrseq_simple ok\n",
+        log: "[   32.591744] bus: 'platform': really_probe: probing driver pwrseq_simple with device wifi-pwrseq\n[   32.651306] pwrseq_simple: probe of wifi-pwrseq failed with error -5\n[   32.651549] probe of wifi-pwrseq returned 5 after 59819 usecs\n",
+        schedule: "begin /wifi-pwrseq\n# fail /wifi-pwrseq\nabandon /wifi-pwrseq\n",
+        unplaced: "",
+    },
+    // The bus has no way back: what is probed again stays bound.
+    Row {
+        name: "probed-again",
+        plan: "/a x ok\n/b y ok\n",
+        log: "probe of a returned 0 after 1 usecs\nreally_probe: probing driver x with device a\nreally_probe: bound device a to driver x\nprobe of b returned 22 after 1 usecs\nprobe of b returned 0 after 1 usecs\nprobe of b returned 0 after 1 usecs\n",
+        schedule: "begin /a\nfinish /a settled\nbegin /b\n# fail /b\nabandon /b\nbegin /b\nfinish /b settled\n",
+        unplaced: "",
+    },
+    // A zcu102's serial port, whose pins are controlled by what the firmware switched off.
+    Row {
+        name: "turned-back",
+        plan: "/axi simple-pm-bus ok\n/axi/serial@ff000000 xuartps ok\n",
+        log: "[    3.785988] bus: 'platform': really_probe: probing driver xuartps with device ff000000.serial\n[    3.786952] probe of ff000000.serial returned -517 after 0 usecs\n[    3.791699] platform ff000000.serial: Added to deferred list\n",
+        schedule: "begin /axi/serial@ff000000\nabandon /axi/serial@ff000000\n",
+        unplaced: "",
+    },
+    Row {
+        name: "switched-off",
+        plan: "/a ! -\n/b x ok\n",
+        log: "really_probe: probing driver x with device a\nreally_probe: bound device a to driver x\nprobe of b returned 0 after 1 usecs\n",
+        schedule: "begin /b\nfinish /b settled\n",
+        unplaced: "1 a is off\n",
+    },
+];
+
 fn add_unplaced(rt: &impl Abort, alloc: Global, text: &mut Vec<u8>, unplaced: &Unplaced<'_>) {
     let front = format!(in alloc; "{} ", unplaced.line).expect(rt, "room");
     text.extend_from_slice(front.as_bytes()).expect(rt, "room");
     text.extend_from_slice(unplaced.name).expect(rt, "room");
-    text.push(b'\n').expect(rt, "room");
+    let back = match unplaced.reason {
+        Reason::Unknown => b"\n".as_slice(),
+        Reason::SwitchedOff => b" is off\n".as_slice(),
+    };
+    text.extend_from_slice(back).expect(rt, "room");
 }
 
-fn holds(rt: &impl Abort, alloc: Global, hasher: RandomState, row: &Row) {
+/// Whether a row gives what it says.
+pub fn holds(rt: &impl Abort, alloc: Global, hasher: RandomState, row: &Row) {
     let plan = read_plan(alloc, hasher, row.plan.as_bytes()).expect(rt, "a plan");
     let traced = boot_schedule(alloc, hasher, &plan, row.log.as_bytes()).expect(rt, "room");
     assert!(rt;
@@ -147,6 +188,14 @@ fn boot_logs(rt: HostRuntime) {
 fn further_boot_logs(rt: HostRuntime) {
     let hasher = RandomState::new(&rt).expect(&rt, "a seed");
     for row in FURTHER {
+        holds(&rt, rt.alloc(), hasher, row);
+    }
+}
+
+#[test]
+fn ends_of_probes(rt: HostRuntime) {
+    let hasher = RandomState::new(&rt).expect(&rt, "a seed");
+    for row in ENDS {
         holds(&rt, rt.alloc(), hasher, row);
     }
 }
