@@ -74,6 +74,11 @@ pub enum Note {
     Shift(u32),
     /// How a device stands, as a report's line.
     Stands(Vec<u8>),
+    /// A device, and a supplier of it that isn't bound, as a report's line.
+    Needs {
+        device: Vec<u8>,
+        supplier: Vec<u8>,
+    },
     /// How many devices there are, and how many a plan may have.
     Count {
         devices: usize,

@@ -6,6 +6,12 @@ use crate::bus_texts::{BusText, Devices, location_in, marked_by};
 use crate::diagnosis::{Diagnosis, Location, Note, copied};
 use std::alloc::{AllocError, Global};
 
+/// Which word of a device's line in a plan is its first supplier.
+const FIRST_SUPPLIER: usize = 3;
+
+/// How many suppliers of a device are looked at.
+const MOST_SUPPLIERS: usize = 256;
+
 /// The lines of a schedule before an event, by its number from 1.
 pub fn before_event(schedule: &[u8], event: usize) -> &[u8] {
     match line_of_event(schedule, event) {
@@ -31,6 +37,9 @@ pub fn diagnose_event(
     }
     if number == 67 {
         schedule.add_known_driver(alloc, &mut diagnosis.notes, line)?;
+    }
+    if number == 63 {
+        schedule.add_needs(alloc, &mut diagnosis.notes, report, device_of(line.text))?;
     }
     Ok(diagnosis)
 }
@@ -59,6 +68,56 @@ impl<'a> BusText<'a> {
         }
         Ok(())
     }
+}
+
+impl BusText<'_> {
+    // The suppliers of a device that aren't bound, as the report has them.
+    fn add_needs(
+        &self,
+        alloc: Global,
+        notes: &mut Vec<Note>,
+        report: &[u8],
+        device: &[u8],
+    ) -> Result<(), AllocError> {
+        let Devices::Plan { bytes, .. } = self.devices else {
+            return Ok(());
+        };
+        let Some(line) = line_of_device(bytes, device) else {
+            return Ok(());
+        };
+        for supplier in line
+            .words(alloc)?
+            .iter()
+            .skip(FIRST_SUPPLIER)
+            .take(MOST_SUPPLIERS)
+        {
+            if let Some(unbound) = report_of(report, supplier.text).filter(|it| !is_bound(it)) {
+                let (device, supplier) = (copied(alloc, device)?, copied(alloc, unbound)?);
+                notes.push(Note::Needs { device, supplier })?;
+            }
+        }
+        Ok(())
+    }
+}
+
+// The line of a plan that a device has.
+fn line_of_device<'a>(plan: &'a [u8], device: &[u8]) -> Option<Line<'a>> {
+    let mut line = Line::from(plan, 0, 1);
+    for _ in 0..plan.len() {
+        if first_word(line.text).is_some_and(|word| word.text == device) {
+            return Some(line);
+        }
+        if line.behind() >= plan.len() {
+            return None;
+        }
+        line = Line::from(plan, line.behind(), line.number.saturating_add(1));
+    }
+    None
+}
+
+// Whether a line of a report tells a device that is bound.
+fn is_bound(line: &[u8]) -> bool {
+    line.split(|b| *b == b' ').nth(1) == Some(b"bound".as_slice())
 }
 
 // Where a plan names a driver first.

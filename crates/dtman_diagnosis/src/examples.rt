@@ -161,7 +161,7 @@ fn of_bus(number: u8) -> Option<&'static str> {
             "error 61 Unmatched event 1\nSCHEDULE:1:1: the device has no driver, or is switched off\n  |\n1 | begin /a\n  | ^^^^^^^^\n  = before it: /a unmatched\n",
         ),
         63 => Some(
-            "error 63 NotReady event 2\nSCHEDULE:2:1: a supplier of the device isn't bound\n  |\n2 | finish /a settled\n  | ^^^^^^^^^^^^^^^^^\n  = before it: /a probing\n",
+            "error 63 NotReady event 2\nSCHEDULE:2:1: a supplier of the device isn't bound\n  |\n2 | finish /a settled\n  | ^^^^^^^^^^^^^^^^^\n  = before it: /a probing\n  = /a needs /b unmatched\n",
         ),
         64 => Some(
             "error 64 WasBound event 2\nSCHEDULE:2:1: the device named is no supplier, or was bound at the begin\n  |\n2 | finish /a missing /b\n  | ^^^^^^^^^^^^^^^^^^^^\n  = before it: /a probing\n",

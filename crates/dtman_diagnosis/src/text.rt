@@ -125,6 +125,11 @@ pub(crate) fn push_note(out: &mut String, note: &Note) -> Result<(), AllocError>
             out.push_str("before it: ")?;
             push_shown(out, line.as_slice())
         }
+        Note::Needs { device, supplier } => {
+            push_shown(out, device.as_slice())?;
+            out.push_str(" needs ")?;
+            push_shown(out, supplier.as_slice())
+        }
         Note::Cells { path, name, count } => push_cells(out, path, *name, *count),
         Note::Node { words, path } => {
             out.push_str(*words)?;

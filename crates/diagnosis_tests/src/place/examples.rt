@@ -150,7 +150,7 @@ fn event_shows<R: Abort + AllocGlobal>(rt: &R, row: &(u8, &str, usize, &str)) {
         bytes: schedule.as_bytes(),
         devices: Devices::Plan {
             file: b"PLAN".as_slice(),
-            bytes: b"/a x ok\n".as_slice(),
+            bytes: b"/a x ok /b\n/b - -\n".as_slice(),
         },
     };
     let report = report.as_bytes();

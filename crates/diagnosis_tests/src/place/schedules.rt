@@ -33,7 +33,7 @@ const REPLAYS: &[Replayed] = &[
         number: 63,
         event: 2,
         report: "/clk due\n/uart probing\n/led unmatched\nbusy\n",
-        lines: "error 63 NotReady event 2\nboot.schedule:2:1: a supplier of the device isn't bound\n  |\n2 | finish /uart settled\n  | ^^^^^^^^^^^^^^^^^^^^\n  = before it: /uart probing\n",
+        lines: "error 63 NotReady event 2\nboot.schedule:2:1: a supplier of the device isn't bound\n  |\n2 | finish /uart settled\n  | ^^^^^^^^^^^^^^^^^^^^\n  = before it: /uart probing\n  = /uart needs /clk due\n",
     },
     Replayed {
         schedule: "begin /clk\nfinish /clk settled\nbegin /uart\nfinish /uart missing /clk\n",

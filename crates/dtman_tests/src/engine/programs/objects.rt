@@ -85,7 +85,7 @@ const ROWS: &[Row] = &[
         &["dtman", "replay", "--json", "board.plan", "early.schedule"],
         1,
         "",
-        "{\"file\":\"early.schedule\",\"line\":2,\"column\":1,\"end\":21,\"severity\":\"error\",\"number\":63,\"name\":\"NotReady\",\"message\":\"a supplier of the device isn't bound\",\"notes\":[\"before it: /uart probing\"]}\n",
+        "{\"file\":\"early.schedule\",\"line\":2,\"column\":1,\"end\":21,\"severity\":\"error\",\"number\":63,\"name\":\"NotReady\",\"message\":\"a supplier of the device isn't bound\",\"notes\":[\"before it: /uart probing\",\"/uart needs /clk due\"]}\n",
     ),
     (
         &["dtman", "get", "--json", "empty.dtb", "/nix"],

@@ -35,7 +35,7 @@ const UNKNOWN: &str =
     "error 20 UnknownLabel\nboard.dts:5:7: no node has the label `b`\n  |\n5 | \ta = <&b>;\n  | \t     ^^\n  = in /, property a\n";
 
 const NOT_READY: &str =
-    "error 63 NotReady event 2\nearly.schedule:2:1: a supplier of the device isn't bound\n  |\n2 | finish /uart settled\n  | ^^^^^^^^^^^^^^^^^^^^\n  = before it: /uart probing\n";
+    "error 63 NotReady event 2\nearly.schedule:2:1: a supplier of the device isn't bound\n  |\n2 | finish /uart settled\n  | ^^^^^^^^^^^^^^^^^^^^\n  = before it: /uart probing\n  = /uart needs /clk due\n";
 
 const SHORT: &str =
     "error 30 Truncated\nshort.dtb:0x4: the blob is cut\n = wanted is a header of 40 bytes\n";
