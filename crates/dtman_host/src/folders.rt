@@ -6,11 +6,13 @@ ghost use Rattle.dtman_host.specs.Outcome.{IsOutcome};
 use crate::diagnosing::Given;
 use crate::outcome::{Outcome, compile_dtc};
 use crate::seeking::{Sought, file_at};
+use crate::sums::Sums;
 use crate::surroundings::Surroundings;
 use dt_text::include::{Files, Found, Reads, search};
 use dtman_engine::DtcOptions;
 use std::alloc::{AllocError, Global};
 use std::hash::RandomState;
+use std::io::{Error, ErrorKind};
 
 /// The surroundings, and the folders.
 struct Folders<'a, S> {
@@ -18,6 +20,8 @@ struct Folders<'a, S> {
     folders: &'a [&'a str],
     /// The paths of the files that were read.
     found: &'a mut Vec<Vec<u8>>,
+    /// What those come to.
+    sums: Sums,
     /// A file was there and couldn't be read to its end: no other is taken in its place.
     is_broken: bool,
 }
@@ -39,6 +43,7 @@ pub fn compile_in<S: Surroundings>(
         surroundings,
         folders,
         found,
+        sums: Sums::new(alloc, hasher),
         is_broken: false,
     };
     compile_dtc(
@@ -81,10 +86,7 @@ impl<S: Surroundings> Reads for Folders<'_, S> {
             return Ok(None);
         }
         match file_at(alloc, self.surroundings, path.as_bytes())? {
-            Sought::Read(bytes) => {
-                self.found.push(Vec::from_slice(alloc, path.as_bytes())?)?;
-                Ok(Some(bytes))
-            }
+            Sought::Read(bytes) => self.kept(alloc, path, bytes),
             Sought::Missing => Ok(None),
             Sought::Broken => {
                 self.is_broken = true;
@@ -94,12 +96,35 @@ impl<S: Surroundings> Reads for Folders<'_, S> {
     }
 }
 
+impl<S: Surroundings> Folders<'_, S> {
+    // A file that was read, where there is room for it beside the others.
+    fn kept(
+        &mut self,
+        alloc: Global,
+        path: &str,
+        bytes: Vec<u8>,
+    ) -> Result<Option<Vec<u8>>, AllocError> {
+        let path = path.as_bytes();
+        if self.sums.add(Vec::from_slice(alloc, path)?, bytes.len())? {
+            self.found.push(Vec::from_slice(alloc, path)?)?;
+            return Ok(Some(bytes));
+        }
+        self.surroundings.note(Error::new(
+            ErrorKind::FileTooLarge,
+            "files are taken in so often that they come to over 40 times their size",
+        ));
+        self.is_broken = true;
+        Ok(None)
+    }
+}
+
 impl<S> Drop for Folders<'_, S> {
     fn drop(self) {
         let Folders {
             surroundings: _,
             folders: _,
             found: _,
+            sums: _,
             is_broken: _,
         } = self;
     }

@@ -18,6 +18,7 @@ mod package;
 mod seeking;
 mod shortfalls;
 mod status;
+mod sums;
 mod surroundings;
 mod user_places;
 

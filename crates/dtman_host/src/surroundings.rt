@@ -66,6 +66,9 @@ pub trait Surroundings {
         None
     }
 
+    /// Notes why the last call failed, where it wasn't the system that told it.
+    fn note(&mut self, _reason: io::Error) {}
+
     /// How many bytes the file at a path has, where that can be told.
     fn len(&mut self, _path: &str) -> Option<u64> {
         None
@@ -168,6 +171,10 @@ impl<'a, R: Files + Input + RandomSource + AllocGlobal + Clone + Drop> Surroundi
 
     fn reason(&mut self) -> Option<io::Error> {
         self.reason.get()
+    }
+
+    fn note(&mut self, reason: io::Error) {
+        self.reason.set(Some(reason));
     }
 
     fn len(&mut self, path: &str) -> Option<u64> {
