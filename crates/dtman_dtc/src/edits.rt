@@ -3,21 +3,11 @@
 //! dtc's manual (Documentation/dts-format.txt) says what stands in a source.
 
 use dt_text::include::Span;
-use dt_text::lexeme::{Kind, Language, Lexeme, scan_front};
-use dtman_engine::MAX_SOURCE_LEN;
-use std::alloc::{AllocError, Global};
+use dt_text::lexeme::{Kind, Lexeme};
 
 /// Whether these bytes of a source name the node that a body extends, or that is deleted or omitted. dtc looks for that as it reads, so
 /// what isn't there is wrong in the words of the source; what a value refers to it looks for when the tree is there.
-pub(crate) fn names_edited(alloc: Global, text: &[u8], bytes: Span) -> Result<bool, AllocError> {
-    if text.len() > MAX_SOURCE_LEN {
-        return Ok(false);
-    }
-    let (lexemes, _) = scan_front(alloc, text, Language::Dtc)?;
-    Ok(stands_edited(lexemes.as_slice(), bytes))
-}
-
-fn stands_edited(lexemes: &[Lexeme], bytes: Span) -> bool {
+pub(crate) fn names_edited(lexemes: &[Lexeme], bytes: Span) -> bool {
     let mut before = None;
     let mut is_named = false;
     for lexeme in lexemes {

@@ -10,6 +10,7 @@ mod forming;
 mod overlaying;
 mod reports;
 mod running;
+mod saying;
 mod taking;
 mod wording;
 

@@ -2,15 +2,19 @@
 
 use crate::edits::names_edited;
 use crate::running::{FAILED, WRONG_TREE};
+use crate::saying::{Refused, said_of, said_of_source};
 use crate::wording::words_of_number;
 use dt_text::include::{Incomplete, Place, Shortfall, Span, columns_of, user_place};
-use dt_text::lexeme::line_of;
-use dtman_diagnosis::Found;
-use dtman_engine::Fault;
-use dtman_host::{Again, Given, Host, Surroundings, faults_of, name_of, shortfall_fault};
+use dt_text::lexeme::{Kind, Language, Lexeme, line_of, scan_front};
+use dtman_diagnosis::{Diagnosis, Found, Location, Subject, copied};
+use dtman_engine::{Fault, MAX_SOURCE_LEN};
+use dtman_host::{
+    Again, Explained, Given, Host, Surroundings, faults_of, name_of, shortfall_fault,
+    source_diagnosed,
+};
 use dtman_words::dtc_options::BadWord;
 use std::alloc::{AllocError, AllocFailed, Global};
-use std::io;
+use std::{io, str};
 
 /// Why a run ended without its output.
 #[derive(Drop)]
@@ -61,56 +65,101 @@ pub(crate) fn report_source<S: Surroundings, E: Eprint, T>(
     source: Given<'_>,
     fault: &Fault,
 ) -> Failure<'static> {
-    // Where there is no memory to find its bytes, the line stands alone.
-    let Ok(faults) = faults_of(host.alloc, again, source.bytes, fault) else {
-        return report_fault(host, source, fault);
-    };
-    match faults.as_slice().split_first() {
-        Some((first, further)) => {
-            let failure = report_found(host, source, *first);
-            report_further(host, source, failure, further)
-        }
-        None => report_fault(host, source, fault),
+    match all_told(host, again, source, fault) {
+        Ok(failure) => failure,
+        Err(_) => Failure::NoMemory,
     }
 }
 
-/// Says a refusal by its bytes.
+/// The same. A fault whose bytes aren't known is told of its line, or of the file.
+fn all_told<S: Surroundings, E: Eprint, T>(
+    host: &mut Host<'_, S, E, T>,
+    again: Again,
+    source: Given<'_>,
+    fault: &Fault,
+) -> Result<Failure<'static>, AllocError> {
+    if fault.number == 0 {
+        return Ok(Failure::NoMemory);
+    }
+    let lexemes = lexemes_of(host.alloc, source.bytes)?;
+    let faults = faults_of(host.alloc, again, source, fault)?;
+    if faults.is_empty() {
+        return told_alone(host, source, fault, lexemes.as_slice());
+    }
+    let mut ends = Wrong::Tree;
+    for explained in faults {
+        // one of the source's words comes before one of the tree that they make
+        if report_found(host, source, lexemes.as_slice(), explained)? == Wrong::Text {
+            ends = Wrong::Text;
+        }
+    }
+    Ok(Failure::Said(ends))
+}
+
+/// The lexemes of a source as far as it has any.
+fn lexemes_of(alloc: Global, text: &[u8]) -> Result<Vec<Lexeme>, AllocError> {
+    if text.len() > MAX_SOURCE_LEN {
+        return Ok(Vec::new(alloc));
+    }
+    let (lexemes, _) = scan_front(alloc, text, Language::Dtc)?;
+    Ok(lexemes)
+}
+
+/// Says a refusal by its bytes, and answers in what something is wrong.
 fn report_found<S: Surroundings, E: Eprint, T>(
     host: &mut Host<'_, S, E, T>,
     source: Given<'_>,
-    found: Found,
-) -> Failure<'static> {
-    let (number, text, bytes) = (found.refused.number, source.bytes, found.span);
+    lexemes: &[Lexeme],
+    explained: Explained,
+) -> Result<Wrong, AllocError> {
+    let (alloc, text) = (host.alloc, source.bytes);
+    let Explained { found, diagnosis } = explained;
+    let Found { refused, span } = found;
+    let at = located(text, place_of(source.name, text, span));
+    let at = match diagnosis.kind {
+        Subject::BehindChild => at.of_property(text, lexemes, span, &diagnosis.location),
+        _ => at,
+    };
+    let bytes = Refused {
+        text,
+        lexemes,
+        bytes: span,
+    };
+    let words = said_of_source(alloc, diagnosis, bytes)?;
     let told = Told {
-        number,
-        name: name_of(number),
-        lexeme: lexeme_in(text, bytes),
+        name: name_of(refused.number),
+        words: words.as_str(),
     };
-    let at = located(text, place_of(source.name, text, bytes));
-    let wrong = match names_edited(host.alloc, text, bytes) {
-        Ok(true) => Wrong::Text,
-        Ok(false) => wrong_in(number),
-        Err(_) => return Failure::NoMemory,
-    };
-    said(wrong, report_at(host, at, told))
+    report_at(host, at, told)?;
+    match refused.number {
+        // the name of a fragment is one of the tree's
+        25 => Ok(Wrong::Tree),
+        _ if names_edited(lexemes, span) => Ok(Wrong::Text),
+        number => Ok(wrong_in(number)),
+    }
 }
 
-/// Says what else is refused, and answers with the failure that ends the run: one of the source's words comes before one of the tree that
-/// they make.
-fn report_further<S: Surroundings, E: Eprint, T>(
+/// Says a refusal whose bytes aren't known.
+fn told_alone<S: Surroundings, E: Eprint, T>(
     host: &mut Host<'_, S, E, T>,
     source: Given<'_>,
-    first: Failure<'static>,
-    further: &[Found],
-) -> Failure<'static> {
-    let mut failure = first;
-    for found in further {
-        let told = report_found(host, source, *found);
-        if matches!(told, Failure::Said(Wrong::Text)) {
-            failure = told;
-        }
-    }
-    failure
+    fault: &Fault,
+    lexemes: &[Lexeme],
+) -> Result<Failure<'static>, AllocError> {
+    let alloc = host.alloc;
+    let diagnosis = source_diagnosed(alloc, source, fault)?;
+    let bytes = Refused {
+        text: source.bytes,
+        lexemes,
+        bytes: Span { start: 0, end: 0 },
+    };
+    let words = said_of_source(alloc, diagnosis, bytes)?;
+    let told = Told {
+        name: fault.name,
+        words: words.as_str(),
+    };
+    report_at(host, line_of_fault(source, fault), told)?;
+    Ok(Failure::Said(wrong_in(fault.number)))
 }
 
 /// The user's place of bytes of a text.
@@ -122,30 +171,36 @@ fn place_of<'t>(file: &'t [u8], text: &'t [u8], bytes: Span) -> Place<'t> {
     }
 }
 
-/// Says a refusal at its line of the user's file.
+/// Says a refusal of a file by its number alone.
 pub(crate) fn report_fault<S: Surroundings, E: Eprint, T>(
     host: &mut Host<'_, S, E, T>,
-    source: Given<'_>,
+    file: Given<'_>,
     fault: &Fault,
 ) -> Failure<'static> {
     let Fault { number, name, .. } = *fault;
     if number == 0 {
         return Failure::NoMemory;
     }
-    let at = match fault.line() {
+    let told = Told {
+        name,
+        words: words_of_number(number),
+    };
+    said(
+        wrong_in(number),
+        report_at(host, line_of_fault(file, fault), told),
+    )
+}
+
+/// The line of a fault, where it tells one.
+fn line_of_fault<'a>(source: Given<'a>, fault: &Fault) -> Shown<'a> {
+    match fault.line() {
         Some(line) => located(source.bytes, user_place(source.name, source.bytes, line)),
         None => Shown {
             file: source.name,
             line: None,
             columns: None,
         },
-    };
-    let told = Told {
-        number,
-        name,
-        lexeme: b"",
-    };
-    said(wrong_in(number), report_at(host, at, told))
+    }
 }
 
 /// Where dtc looks at what a source's words say, after all of them were read.
@@ -156,32 +211,11 @@ fn wrong_in(number: u8) -> Wrong {
     }
 }
 
-/// What is told of a refusal beside its place: the bytes of the text are none where they aren't known.
+/// What is told of a refusal beside its place.
 #[derive(Clone, Copy)]
 struct Told<'a> {
-    number: u8,
     name: &'a str,
-    lexeme: &'a [u8],
-}
-
-/// The bytes of a span, where they are text of one line and short enough to be shown.
-fn lexeme_in(text: &[u8], span: Span) -> &[u8] {
-    match text.get(span.start..span.end) {
-        Some(lexeme) if lexeme.len() <= MAX_SHOWN && is_shown(lexeme) => lexeme,
-        _ => b"",
-    }
-}
-
-/// How long a lexeme is at most that is shown, in bytes.
-const MAX_SHOWN: usize = 80;
-
-fn is_shown(lexeme: &[u8]) -> bool {
-    for c in lexeme {
-        if !matches!(*c, b' '..=b'~') {
-            return false;
-        }
-    }
-    true
+    words: &'a str,
 }
 
 /// A file, its line where it is known, and columns where they are: the first, and the one behind the last.
@@ -190,6 +224,29 @@ struct Shown<'a> {
     file: &'a [u8],
     line: Option<usize>,
     columns: Option<Span>,
+}
+
+impl Shown<'_> {
+    // The same with the columns of a property, from its name on: these bytes are what shows it to be no child.
+    fn of_property(self, text: &[u8], lexemes: &[Lexeme], bytes: Span, name: &Location) -> Self {
+        let Location::Text { column, .. } = name else {
+            return self;
+        };
+        let last = lexemes.iter().find(|lexeme| lexeme.kind == Kind::Semicolon
+            && lexeme.start as usize >= bytes.start);
+        let end = last.map_or(bytes.end, |lexeme| lexeme.end as usize);
+        let behind = Span {
+            start: bytes.start,
+            end,
+        };
+        Shown {
+            columns: Some(Span {
+                start: *column,
+                end: columns_of(text, behind).end,
+            }),
+            ..self
+        }
+    }
 }
 
 /// A place of a text.
@@ -211,7 +268,7 @@ fn said(wrong: Wrong, reported: Result<(), AllocError>) -> Failure<'static> {
     }
 }
 
-/// `Error: FILE:LINE.COLUMN-COLUMN: NAME: words: LEXEME`, as far as it is known.
+/// `Error: FILE:LINE.COLUMN-COLUMN: NAME: words`, as far as it is known.
 fn report_at<S: Surroundings, E: Eprint, T>(
     host: &mut Host<'_, S, E, T>,
     at: Shown<'_>,
@@ -220,14 +277,8 @@ fn report_at<S: Surroundings, E: Eprint, T>(
     let alloc = host.alloc;
     let mut line = Vec::from_slice(alloc, b"Error: ")?;
     put_place(alloc, &mut line, at)?;
-    let (name, words) = (told.name, words_of_number(told.number));
-    line.extend_from_slice(format!(in alloc; "{name}: {words}")?.as_bytes())?;
-    if !told.lexeme.is_empty() {
-        line.extend_from_slice(b": `")?;
-        line.extend_from_slice(told.lexeme)?;
-        line.extend_from_slice(b"`")?;
-    }
-    line.extend_from_slice(b"\n")?;
+    let Told { name, words } = told;
+    line.extend_from_slice(format!(in alloc; "{name}: {words}\n")?.as_bytes())?;
     host.tell(line.as_slice());
     Ok(())
 }
@@ -264,15 +315,44 @@ pub(crate) fn report_shortfall<S: Surroundings, E: Eprint, T>(
         line: Some(site.line),
         columns: Some(site.columns),
     };
-    let told = Told {
-        number,
-        name,
-        lexeme: b"",
+    let reported = match &reason {
+        Incomplete::NoFile(file) => report_lost(host, at, name, file.as_slice()),
+        _ => report_at(
+            host,
+            at,
+            Told {
+                name,
+                words: words_of_number(number),
+            },
+        ),
     };
-    match report_at(host, at, told) {
+    match reported {
         Ok(()) => Failure::Incomplete(reason),
         Err(_) => Failure::NoMemory,
     }
+}
+
+/// Says that a file that is named there can't be read.
+fn report_lost<S: Surroundings, E: Eprint, T>(
+    host: &mut Host<'_, S, E, T>,
+    at: Shown<'_>,
+    name: &str,
+    file: &[u8],
+) -> Result<(), AllocError> {
+    let alloc = host.alloc;
+    let lost = Diagnosis {
+        number: 80,
+        location: Location::Nowhere,
+        kind: Subject::Inclusion,
+        subject: copied(alloc, file)?,
+        notes: Vec::new(alloc),
+    };
+    let words = said_of(alloc, lost)?;
+    let told = Told {
+        name,
+        words: words.as_str(),
+    };
+    report_at(host, at, told)
 }
 
 /// Says why a run ended, and answers its exit status.
@@ -321,7 +401,7 @@ fn words_of(
         }
         Failure::NoSeed => format!(in alloc; "FATAL ERROR: error 80 CannotRead random\n"),
         Failure::Word(word) => bad_word(alloc, word),
-        Failure::Incomplete(reason) => incomplete(alloc, reason),
+        Failure::Incomplete(short) => incomplete(alloc, short, reason),
         Failure::Said(Wrong::Text) => {
             format!(in alloc; "FATAL ERROR: Unable to parse input tree\n")
         }
@@ -359,13 +439,22 @@ fn bad_word(alloc: Global, word: &BadWord<'_>) -> Result<String, AllocError> {
     }
 }
 
-fn incomplete(alloc: Global, reason: &Incomplete) -> Result<String, AllocError> {
-    match reason {
+fn incomplete(
+    alloc: Global,
+    short: &Incomplete,
+    reason: Option<io::Error>,
+) -> Result<String, AllocError> {
+    match short {
         Incomplete::NoMemory => format!(in alloc; "FATAL ERROR: error 0 NoMemory\n"),
-        Incomplete::NoFile(name) => {
-            let name = std::str::from_utf8(name.as_slice()).unwrap_or("?");
-            format!(in alloc; "FATAL ERROR: Couldn't open \"{name}\": error 80 CannotRead\n")
-        }
+        Incomplete::NoFile(name) => match str::from_utf8(name.as_slice()) {
+            Ok(name) => {
+                let what = format!(in alloc; "\"{name}\"")?;
+                unopened(alloc, what.as_str(), reason, &Fault::cannot_read())
+            }
+            Err(_) => format!(in alloc;
+                "FATAL ERROR: Couldn't open \"?\": its name is no text of UTF-8\n"
+            ),
+        },
         Incomplete::TooDeep => format!(in alloc; "FATAL ERROR: Includes nested too deeply\n"),
         Incomplete::TooLong => format!(in alloc; "FATAL ERROR: error 17 TooLong\n"),
         Incomplete::Syntax => format!(in alloc; "FATAL ERROR: error 10 Syntax in an inclusion\n"),

@@ -3,37 +3,17 @@
 /// The words behind a refusal's name; none for a number that needs none.
 pub(crate) fn words_of_number(number: u8) -> &'static str {
     match number {
-        10..=19 => of_text(number),
-        20..=29 => of_tree(number),
+        10..=19 => of_inclusion(number),
         30..=39 => of_blob(number),
         _ => of_overlay(number),
     }
 }
 
-fn of_text(number: u8) -> &'static str {
+fn of_inclusion(number: u8) -> &'static str {
     match number {
         10 => "this can't stand here",
-        11 => "the number doesn't fit its element",
-        12 => "division by zero",
-        13 => "no width of 8, 16, 32 or 64 bits, or a reference in cells of another width than 32",
-        14 => "no number below 2^64",
-        15 => "no escape",
-        16 => "nested over 64 deep",
+        16 => "files within files, over 200 deep",
         _ => "a source of over 16 MiB",
-    }
-}
-
-fn of_tree(number: u8) -> &'static str {
-    match number {
-        20 => "no node has this label",
-        21 => "another node has this label",
-        22 => "no node has this path",
-        23 => "no phandle: four bytes, neither 0 nor 0xffffffff",
-        24 => "another node has this phandle",
-        25 => "defined twice in one body",
-        26 => "a path in the cells of a plugin, where fixups carry labels alone",
-        27 => "this name or node is the compiler's own",
-        _ => "over 64 levels of nodes",
     }
 }
 
@@ -60,7 +40,6 @@ fn of_overlay(number: u8) -> &'static str {
         44 => "phandles above the greatest",
         45 => "a node of the base has a phandle already: is the overlay applied?",
         46 => "over 64 levels of nodes",
-        80 => "the file can't be read",
         _ => "not done",
     }
 }

@@ -8,7 +8,8 @@ use dt_source::place_at;
 use dt_text::include::Binary;
 use dt_text::lexeme::Language;
 use dtman_diagnosis::{
-    Found, Recompiler, Refused, SourceText, diagnose_draft, further_faults, refused_span, text_of,
+    Diagnosis, Found, Recompiler, Refused, SourceText, diagnose_draft, diagnose_dtc,
+    further_faults, refused_span, text_of,
 };
 use dtman_engine::{DtcOptions, Fault, Position, compile_bytes, compile_dtc, explain};
 use std::alloc::{AllocError, Global};
@@ -50,30 +51,72 @@ impl Recompiler for Again {
     }
 }
 
-/// All that is refused of a text of which this fault is the first, in the order of the text; nothing where the bytes of that one aren't known.
+/// What is refused of a source, and what is told of it.
+#[derive(Drop)]
+pub struct Explained {
+    pub found: Found,
+    pub diagnosis: Diagnosis,
+}
+
+/// The faults of a source so far.
+#[derive(Drop)]
+struct Gathering<'s> {
+    again: Again,
+    source: Given<'s>,
+    faults: Vec<Explained>,
+}
+
+impl Recompiler for Gathering<'_> {
+    fn refusal(&mut self, alloc: Global, text: &[u8], binaries: Vec<Binary>) -> Option<Refused> {
+        self.again.refusal(alloc, text, binaries)
+    }
+
+    fn take(&mut self, alloc: Global, draft: &[u8], found: Found) -> Result<(), AllocError> {
+        let Given { name, bytes } = self.source;
+        let source = SourceText {
+            language: self.again.language,
+            text: bytes,
+        };
+        let diagnosis = diagnose_draft(alloc, name, source, draft, found.refused)?;
+        self.faults.push(Explained { found, diagnosis })?;
+        Ok(())
+    }
+}
+
+/// All that is refused of a source of which this fault is the first, in the order of the text; nothing where the bytes of that one aren't known.
 pub fn faults_of(
     alloc: Global,
     again: Again,
-    text: &[u8],
+    source: Given<'_>,
     fault: &Fault,
-) -> Result<Vec<Found>, AllocError> {
-    let mut faults = Vec::new(alloc);
-    let refused = refused_by(fault);
-    let Some(span) = refused_span(alloc, again.language, text, refused)? else {
-        return Ok(faults);
+) -> Result<Vec<Explained>, AllocError> {
+    let mut gathering = Gathering {
+        again,
+        source,
+        faults: Vec::new(alloc),
     };
-    let first = Found { refused, span };
-    faults.push(first)?;
-    let source = SourceText {
+    let text = SourceText {
         language: again.language,
-        text,
+        text: source.bytes,
     };
-    let mut again = again;
-    // Where there is no memory to find the others, the first stands alone.
-    if let Ok(further) = further_faults(alloc, source, first, &mut again) {
-        faults.extend_from_slice(further.as_slice())?;
+    let refused = refused_by(fault);
+    if let Some(span) = refused_span(alloc, again.language, source.bytes, refused)? {
+        let first = Found { refused, span };
+        gathering.take(alloc, source.bytes, first)?;
+        // Where there is no memory to find the others, the first stands alone.
+        let _ = further_faults(alloc, text, first, &mut gathering);
     }
+    let Gathering { faults, .. } = gathering;
     Ok(faults)
+}
+
+/// What is told of a source in dtc's language that is refused so.
+pub fn source_diagnosed(
+    alloc: Global,
+    source: Given<'_>,
+    fault: &Fault,
+) -> Result<Diagnosis, AllocError> {
+    diagnose_dtc(alloc, source.name, source.bytes, refused_by(fault))
 }
 
 /// The name of a refusal.

@@ -30,7 +30,7 @@ pub use diagnosing::{Given, Inputs, Planned, file_of};
 pub use failure::{Failure, fail};
 pub use files::{INPUT, named, print, put_at, write_at, write_in_place};
 pub use folders::compile_in;
-pub use further::{Again, faults_of, name_of};
+pub use further::{Again, Explained, faults_of, name_of, source_diagnosed};
 pub use host::Host;
 pub use near::no_such;
 pub use noted::Noted;

@@ -4,6 +4,7 @@ use crate::runs::{Left, left_by};
 use crate::shelf::Shelf;
 use dtman_engine::compile_bytes;
 use std::hash::RandomState;
+use std::io;
 use std::process::Abort;
 use std::thread::Threads;
 
@@ -31,6 +32,7 @@ const FILES: &[(&str, &[u8])] = &[
     ),
     ("lost.dts", b"/dts-v1/;\n /include/ \"none.dtsi\"\n"),
     ("five.dts", b"/dts-v1/;\n/include/ 5;\n"),
+    ("latin.dts", b"/dts-v1/; / { a = /incbin/(\"no\xff\"); };"),
     ("deep.dts", b"\n/include/ \"deep.dts\""),
 ];
 
@@ -40,6 +42,42 @@ fn runs<R: Abort + AllocGlobal + Threads + Sync>(rt: &R, hasher: RandomState, ro
     let Left { status, text } = left_by(rt, row.0, &mut shelf);
     assert_eq!(rt; status, row.1);
     assert_eq!(rt; text.as_slice(), row.2.as_bytes());
+}
+
+/// Where the system tells why a file can't be opened.
+const REASONS: &[Row] = &[
+    (
+        &["dtc", "lost.dts"],
+        1,
+        "Error: lost.dts:2.2-23: CannotRead: no file can be read that is named `none.dtsi`\nFATAL ERROR: Couldn't open \"none.dtsi\": No such file or directory (os error 2)\n",
+    ),
+    (
+        &["dtc", "none.dts"],
+        1,
+        "FATAL ERROR: Couldn't open \"none.dts\": No such file or directory (os error 2)\n",
+    ),
+    (
+        &["dtc", "-o", "locked", "one.dts"],
+        1,
+        "FATAL ERROR: Couldn't open output file locked: No such file or directory (os error 2)\n",
+    ),
+    (
+        &["fdtget", "none", "/", "x"],
+        1,
+        "Couldn't open blob from 'none': No such file or directory (os error 2)\n",
+    ),
+];
+
+#[test]
+fn the_system_tells_why(rt: HostRuntime) {
+    let hasher = RandomState::new(&rt).expect(&rt, "a seed");
+    for row in REASONS {
+        let mut shelf = Shelf::new(rt.alloc(), FILES, hasher);
+        shelf.reason = Some(io::Error::from_raw_os_error(2));
+        let Left { status, text } = left_by(&rt, row.0, &mut shelf);
+        assert_eq!(&rt; status, row.1);
+        assert_eq!(&rt; text.as_slice(), row.2.as_bytes());
+    }
 }
 
 const DTC_RUNS: &[Row] = &[
@@ -144,22 +182,27 @@ const DTC_RUNS: &[Row] = &[
     (
         &["dtc", "bad.dts"],
         1,
-        "Error: bad.dts:2.1-9: UnknownLabel: no node has this label: `&unknown`\nFATAL ERROR: Unable to parse input tree\n",
+        "Error: bad.dts:2.1-9: UnknownLabel: no node has the label `unknown`\nFATAL ERROR: Unable to parse input tree\n",
     ),
     (
         &["dtc", "gone.dts"],
         1,
-        "Error: gone.dts:3.25-33: UnknownLabel: no node has this label: `&unknown`\nFATAL ERROR: Unable to parse input tree\n",
+        "Error: gone.dts:3.25-33: UnknownLabel: no node has the label `unknown`\nFATAL ERROR: Unable to parse input tree\n",
     ),
     (
         &["dtc", "unknown.dts"],
         2,
-        "Error: unknown.dts:4.3-11: UnknownLabel: no node has this label: `&unknown`\nERROR: Input tree has errors, aborting\n",
+        "Error: unknown.dts:4.3-11: UnknownLabel: no node has the label `unknown`\nERROR: Input tree has errors, aborting\n",
     ),
     (
         &["dtc", "lost.dts"],
         1,
-        "Error: lost.dts:2.2-23: CannotRead: the file can't be read\nFATAL ERROR: Couldn't open \"none.dtsi\": error 80 CannotRead\n",
+        "Error: lost.dts:2.2-23: CannotRead: no file can be read that is named `none.dtsi`\nFATAL ERROR: Couldn't open \"none.dtsi\": error 80 CannotRead\n",
+    ),
+    (
+        &["dtc", "latin.dts"],
+        1,
+        "Error: latin.dts:1.19-33: CannotRead: no file can be read that is named `no\\xff`\nFATAL ERROR: Couldn't open \"?\": its name is no text of UTF-8\n",
     ),
     (
         &["dtc", "five.dts"],
@@ -169,7 +212,7 @@ const DTC_RUNS: &[Row] = &[
     (
         &["dtc", "deep.dts"],
         1,
-        "Error: deep.dts:2.1-21: TooDeep: nested over 64 deep\nFATAL ERROR: Includes nested too deeply\n",
+        "Error: deep.dts:2.1-21: TooDeep: files within files, over 200 deep\nFATAL ERROR: Includes nested too deeply\n",
     ),
     (
         &[
