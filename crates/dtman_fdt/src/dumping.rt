@@ -1,5 +1,5 @@
 //! `fdtdump`: the words of a blob as they stand there, up to the first that is broken.
-ghost use Rattle.std.specs.Prelude.{◌≡◌, false};
+ghost use Rattle.std.specs.Prelude.{◌≡◌, false, OnOk};
 
 use crate::reports::{Failure, fail, put, read_file};
 use crate::tokens::{aligned, bytes_at, text_at, word_at};
@@ -53,6 +53,9 @@ const NOP: u32 = 4;
 
 const END: u32 = 9;
 
+/// How many bytes of a dump are printed at once: a blob's names and depths may come to many times its size.
+const PIECE: usize = 65_536;
+
 /// A dump so far.
 #[derive(Drop)]
 struct Dumped<'a> {
@@ -60,6 +63,7 @@ struct Dumped<'a> {
     strings_at: usize,
     wants_places: bool,
     depth: usize,
+    /// What isn't printed yet.
     out: Vec<u8>,
     /// What is told beside it.
     told: Vec<u8>,
@@ -107,8 +111,8 @@ fn dump<'a, S: Surroundings, O: Channel, E: Eprint, T>(
     if !blob.starts_with(MAGIC) || blob.len() < 40 {
         return Err(Failure::NoHeader(*path));
     }
-    let dumped = dump_of(alloc, head, blob, words.has("d"))?;
-    put(output, dumped.out.as_slice())?;
+    let mut dumped = dump_of(alloc, head, blob, words.has("d"))?;
+    dumped.print_structure(alloc, output)?;
     host.tell(dumped.told.as_slice());
     Ok(())
 }
@@ -134,6 +138,7 @@ fn found<'a, 'b>(
     }
 }
 
+// A dump up to the structure block.
 fn dump_of(
     alloc: Global,
     head: Vec<u8>,
@@ -150,7 +155,6 @@ fn dump_of(
     };
     dumped.add_header(alloc)?;
     dumped.add_reserves(alloc)?;
-    dumped.add_structure(alloc)?;
     Ok(dumped)
 }
 
@@ -297,14 +301,33 @@ impl Dumped<'_> {
         Ok(())
     }
 
-    fn add_structure(&mut self, alloc: Global) -> Result<(), AllocError> {
+    // Prints the structure block, and what stands before it.
+    fn print_structure<O: Channel>(
+        &mut self,
+        alloc: Global,
+        output: &mut O,
+    ) -> Result<(), Failure<'static>>
+        requires { O.has_failed output.old ≡ false }
+    {
         let mut at = self.word(8) as usize;
-        for _token in 0..self.bytes.len() {
+        'tokens: for _token in 0..self.bytes.len() {
             match self.add_token(alloc, at)? {
                 Some(next) => at = next,
-                None => return Ok(()),
+                None => return self.print(output),
+            }
+            if self.out.len() >= PIECE {
+                self.print(output)?;
             }
         }
+        self.print(output)
+    }
+
+    fn print<O: Channel>(&mut self, output: &mut O) -> Result<(), Failure<'static>>
+        requires { O.has_failed output.old ≡ false }
+        ensures { OnOk result (O.has_failed output.new ≡ false) }
+    {
+        put(output, self.out.as_slice())?;
+        self.out.clear();
         Ok(())
     }
 

@@ -7,10 +7,10 @@ use crate::reports::{Failure, fail, fdt_error, put, read_file};
 use crate::words::{Choice, Words, read_words};
 use dt_blob::{BlobError, read, write};
 use dt_tree::{Bytes, Name, Path, Tree, TreeError};
-use dtman_blobs::{SayError, said};
+use dtman_blobs::{Notation, SayError, ValueType, said};
 use dtman_engine::Channel;
 use dtman_host::{DONE, DTC_VERSION, Host, Surroundings, put_at};
-use std::alloc::Global;
+use std::alloc::{AllocError, Global};
 
 const USAGE: &[u8] = b"Usage: set a property of a device tree, or change its nodes
 \tfdtput <options> <blob> <node> <property> [<value>...]
@@ -180,15 +180,86 @@ fn change<'a, S: Surroundings, E: Eprint, T>(
         create_path(alloc, tree, *node)?;
     }
     let kind = kind_of(words.word("t"))?;
-    let value = match said(alloc, kind, values) {
-        Ok(value) => value,
-        Err(SayError::NoMemory) => return Err(Failure::NoMemory),
-        Err(SayError::NoNumber(word)) => return Err(Failure::NoNumber(word)),
-    };
+    let value = value_of(alloc, kind, values)?;
     if words.has("v") {
         tell_size(host, value.len())?;
     }
     set(alloc, tree, *node, *property, value)
+}
+
+// The value that words say.
+fn value_of<'a>(
+    alloc: Global,
+    kind: ValueType,
+    values: &[&'a str],
+) -> Result<Vec<u8>, Failure<'a>> {
+    if kind.notation != Some(Notation::Signed) {
+        return plain_value(alloc, kind, values);
+    }
+    let decimal = all_in_decimal(alloc, values)?;
+    let mut words = Vec::with_capacity(alloc, decimal.len())?;
+    for word in &decimal {
+        words.push(word.as_str()).map_err(AllocError::from)?;
+    }
+    said_as(alloc, kind, words.as_slice(), values)
+}
+
+// The value that words say as they stand.
+fn plain_value<'a>(
+    alloc: Global,
+    kind: ValueType,
+    values: &[&'a str],
+) -> Result<Vec<u8>, Failure<'a>> {
+    match said(alloc, kind, values) {
+        Ok(value) => Ok(value),
+        Err(SayError::NoMemory) => Err(Failure::NoMemory),
+        Err(SayError::NoNumber(word)) => Err(Failure::NoNumber(word)),
+    }
+}
+
+// The value of words that stand for others, of which one that is no number is told.
+fn said_as<'a>(
+    alloc: Global,
+    kind: ValueType,
+    words: &[&str],
+    values: &[&'a str],
+) -> Result<Vec<u8>, Failure<'a>> {
+    let word = match said(alloc, kind, words) {
+        Ok(value) => return Ok(value),
+        Err(SayError::NoMemory) => return Err(Failure::NoMemory),
+        Err(SayError::NoNumber(word)) => word,
+    };
+    let place = words.iter().position(|other| *other == word);
+    match place {
+        Some(place) => Err(Failure::NoNumber(values.get(place).copied().unwrap_or(""))),
+        None => Err(Failure::NoNumber("")),
+    }
+}
+
+fn all_in_decimal(alloc: Global, words: &[&str]) -> Result<Vec<String>, AllocError> {
+    let mut decimal = Vec::with_capacity(alloc, words.len())?;
+    for word in words {
+        decimal.push(in_decimal(alloc, *word)?)?;
+    }
+    Ok(decimal)
+}
+
+// A number as `-t i` reads it, octal behind a leading 0 as C's `%i` does, in decimal.
+fn in_decimal(alloc: Global, word: &str) -> Result<String, AllocError> {
+    let (sign, number) = match word.strip_prefix("-") {
+        Some(number) => ("-", number),
+        None => ("", word),
+    };
+    match number.strip_prefix("0") {
+        Some(digits) if !digits.is_empty() && !digits.starts_with("x") => {
+            match u32::from_str_radix(digits, 8) {
+                Ok(number) if !digits.starts_with("+") => format!(in alloc; "{sign}{number}"),
+                // what is no octal number is none at all
+                _ => format!(in alloc; "{word}?"),
+            }
+        }
+        _ => String::from_str(alloc, word),
+    }
 }
 
 fn tell_size<S: Surroundings, E: Eprint, T>(

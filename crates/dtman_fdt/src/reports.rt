@@ -1,11 +1,12 @@
 //! Why a tool ends without its output, and how that is told.
-ghost use Rattle.std.specs.Prelude.{◌≡◌, false};
+ghost use Rattle.std.specs.Prelude.{◌≡◌, false, OnOk};
 
 use crate::words::Unread;
 use dt_blob::BlobError;
 use dtman_engine::Channel;
 use dtman_host::{Host, Surroundings, print};
 use std::alloc::{AllocError, Global};
+use std::io;
 
 /// The status of a command line that wasn't done.
 pub const FAILED: u8 = 1;
@@ -57,12 +58,34 @@ pub fn fdt_error(error: BlobError) -> &'static str {
     }
 }
 
-fn line_of(alloc: Global, failure: Failure<'_>) -> Result<String, AllocError> {
+// The system's reason stands behind a file's name where it is known.
+fn with_reason(
+    alloc: Global,
+    words: String,
+    reason: Option<io::Error>,
+) -> Result<String, AllocError> {
+    match reason {
+        Some(error) => format!(in alloc; "{words}: {error}\n"),
+        None => format!(in alloc; "{words}\n"),
+    }
+}
+
+fn line_of(
+    alloc: Global,
+    failure: Failure<'_>,
+    reason: Option<io::Error>,
+) -> Result<String, AllocError> {
     match failure {
         Failure::NoMemory => format!(in alloc; "out of memory\n"),
         Failure::Usage(what) => format!(in alloc; "Error: {what}\n"),
-        Failure::Unopened(path) => format!(in alloc; "Couldn't open blob from '{path}'\n"),
-        Failure::Unwritten(path) => format!(in alloc; "Couldn't write blob to '{path}'\n"),
+        Failure::Unopened(path) => {
+            let words = format!(in alloc; "Couldn't open blob from '{path}'")?;
+            with_reason(alloc, words, reason)
+        }
+        Failure::Unwritten(path) => {
+            let words = format!(in alloc; "Couldn't write blob to '{path}'")?;
+            with_reason(alloc, words, reason)
+        }
         Failure::At(place, error) => format!(in alloc; "Error at '{place}': {error}\n"),
         Failure::Said(what) => format!(in alloc; "{what}\n"),
         Failure::NoNumber(word) => format!(in alloc;
@@ -87,7 +110,8 @@ pub fn fail<S: Surroundings, E: Eprint, T>(
         host.tell(usage);
         host.tell(b"\n");
     }
-    match line_of(host.alloc, failure) {
+    let reason = host.surroundings.reason();
+    match line_of(host.alloc, failure, reason) {
         Ok(line) => host.tell(line.as_bytes()),
         Err(_) => host.tell(b"out of memory\n"),
     }
@@ -97,6 +121,7 @@ pub fn fail<S: Surroundings, E: Eprint, T>(
 /// Prints what a tool answers.
 pub fn put<O: Channel>(output: &mut O, text: &[u8]) -> Result<(), Failure<'static>>
     requires { O.has_failed output.old ≡ false }
+    ensures { OnOk result (O.has_failed output.new ≡ false) }
 {
     match print(output, text) {
         Ok(()) => Ok(()),

@@ -139,6 +139,25 @@ const PUTS: &[Put] = &[
         asked: &["fdtget", "f", "/new/below", "name2"],
         text: b"a b\n",
     },
+    // a leading 0 is octal by `i` alone
+    Put {
+        words: &["fdtput", "-t", "i", "f", "/u", "clocks", "010", "0x10"],
+        status: 0,
+        asked: &["fdtget", "f", "/u", "clocks"],
+        text: b"8 16\n",
+    },
+    Put {
+        words: &["fdtput", "f", "/u", "clocks", "010"],
+        status: 0,
+        asked: &["fdtget", "f", "/u", "clocks"],
+        text: b"10\n",
+    },
+    Put {
+        words: &["fdtput", "-t", "i", "f", "/u", "clocks", "08"],
+        status: 1,
+        asked: &["fdtget", "f", "/u", "clocks"],
+        text: b"Error: '08' is no number of this width\n1 2\n",
+    },
     Put {
         words: &["fdtput", "-c", "f", "/new"],
         status: 0,
