@@ -29,10 +29,18 @@ pub(crate) fn checked<'a, S: Surroundings, E: Eprint, T>(
     if !options.force {
         return Err(Failure::Said(Wrong::Tree));
     }
+    tell_forced(host, options);
+    Ok(())
+}
+
+/// Says that what an error was found in is written by `-f`.
+pub(crate) fn tell_forced<S: Surroundings, E: Eprint, T>(
+    host: &mut Host<'_, S, E, T>,
+    options: &Options<'_>,
+) {
     if options.quiet < 3 {
         host.tell(b"Warning: Input tree has errors, output forced\n");
     }
-    Ok(())
 }
 
 // What the checks tell: nothing of what is no blob, since whoever reads it says so.

@@ -7,14 +7,14 @@ ghost use Rattle.dtman_dtc.specs.DtcOutput.{HasRoom, IsBlobFor, IsOutput};
 ghost use Rattle.dtman_words.specs.declared.dtc_options.Format.TheVariants.{Dtb};
 ghost use Rattle.dtman_words.specs.declared.dtc_options.Output.TheVariants.{Holds};
 
-use crate::checking::checked;
+use crate::checking::{checked, tell_forced};
 use crate::reports::Failure;
 use crate::taking::{Taken, refused};
 use dt_blob::{BlobError, blob_holds};
 use dtman_blobs::{RoomError, with_room};
 use dtman_engine::{Fault, sort_bytes};
 use dtman_host::{Board, Host, Surroundings};
-use dtman_layout::{Compiled, Texts, layout_bytes, source_text};
+use dtman_layout::{Compiled, Texts, layout_bytes, source_text, untrue_text};
 use dtman_words::dtc_options::{Format, Options, Order, Output};
 
 /// What was taken, once it is checked, in the order and the form that are asked for.
@@ -52,7 +52,7 @@ fn sorted<S: Surroundings, E: Eprint, T>(
     blob_holds();
     match sort_bytes(host.alloc, hasher, blob) {
         Ok(sorted) => Ok(sorted),
-        Err(fault) => Err(refused(host, options, &fault)),
+        Err(fault) => Err(refused(host, options, blob, &fault)),
     }
 }
 
@@ -95,16 +95,27 @@ fn printed<S: Surroundings, E: Eprint, T>(
     }
 }
 
-/// The source of a blob in dtc's layout.
+/// The source of a blob in dtc's layout, by `-f` also where its nodes make no tree.
 fn dumped<S: Surroundings, E: Eprint, T>(
     host: &mut Host<'_, S, E, T>,
     options: &Options<'_>,
     texts: Texts,
     blob: &[u8],
 ) -> Result<Vec<u8>, Failure<'static>> {
-    match layout_bytes(host.alloc, blob, texts) {
-        Ok(text) => Ok(text),
-        Err(error) => Err(refused(host, options, &Fault::from(error))),
+    let error = match layout_bytes(host.alloc, blob, texts) {
+        Ok(text) => return Ok(text),
+        Err(error) => error,
+    };
+    let failure = refused(host, options, blob, &Fault::from(error));
+    if !options.force || !matches!(error, BlobError::BadTree | BlobError::PropertyAfterNode) {
+        return Err(failure);
+    }
+    match untrue_text(host.alloc, blob, texts)? {
+        Some(text) => {
+            tell_forced(host, options);
+            Ok(text)
+        }
+        None => Err(failure),
     }
 }
 

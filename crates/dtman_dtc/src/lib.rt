@@ -3,6 +3,7 @@
 //! dtc's manual (Documentation/manual.txt, section 'Command-line arguments') says what the options are.
 #![tactic(auto)]
 
+mod blob_refusals;
 mod checking;
 mod edits;
 mod folder_tree;

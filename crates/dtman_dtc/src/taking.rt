@@ -8,7 +8,8 @@ ghost use Rattle.dtman_dtc.specs.DtcOutput.{boots, IsBlobFor, IsRead};
 ghost use Rattle.dtman_words.specs.declared.dtc_options.Format.TheVariants.{Dts, Dtb};
 ghost use Rattle.dtman_words.specs.declared.dtc_options.Output.TheVariants.{Holds};
 
-use crate::reports::{Failure, report_fault, report_shortfall, report_source};
+use crate::blob_refusals::report_blob;
+use crate::reports::{Failure, report_shortfall, report_source};
 use dt_text::include::plain;
 use dt_text::lexeme::Language;
 use dtman_blobs::set_boot_cpu;
@@ -172,12 +173,12 @@ fn copied<S: Surroundings, E: Eprint, T>(
     };
     let tree = match tree_of(host.alloc, BlobRole::Sole, blob) {
         Ok(tree) => named_once(host.alloc, tree)?,
-        Err(fault) => return Err(refused(host, options, &fault)),
+        Err(fault) => return Err(refused(host, options, blob, &fault)),
     };
     tree.check();
     match tree_blob(host.alloc, hasher, &tree) {
         Ok(copy) => Ok(booted(copy, options)),
-        Err(fault) => Err(refused(host, options, &fault)),
+        Err(fault) => Err(refused(host, options, blob, &fault)),
     }
 }
 
@@ -185,13 +186,14 @@ fn copied<S: Surroundings, E: Eprint, T>(
 pub(crate) fn refused<S: Surroundings, E: Eprint, T>(
     host: &mut Host<'_, S, E, T>,
     options: &Options<'_>,
+    bytes: &[u8],
     fault: &Fault,
 ) -> Failure<'static> {
     let blob = Given {
         name: options.input.as_bytes(),
-        bytes: b"",
+        bytes,
     };
-    report_fault(host, blob, fault)
+    report_blob(host, blob, fault)
 }
 
 /// What a source was compiled to and, where it is to be printed, its labels.

@@ -2,11 +2,11 @@
 ghost use Rattle.std.specs.Prelude.{◌≡◌, false, OnOk};
 
 use crate::reports::{Failure, fail, put, read_file};
-use crate::tokens::{aligned, bytes_at, text_at, word_at};
 use crate::words::{Choice, read_words};
 use dtman_blobs::are_texts;
 use dtman_engine::Channel;
 use dtman_host::{DONE, DTC_VERSION, Host, Surroundings};
+use dtman_layout::{aligned, bytes_at, text_at, word_at};
 use std::alloc::{AllocError, Global};
 
 const USAGE: &[u8] = b"Usage: fdtdump [options] <file>

@@ -8,7 +8,6 @@ mod finding;
 mod getting;
 mod putting;
 mod reports;
-mod tokens;
 mod words;
 
 pub use dumping::run_fdtdump;

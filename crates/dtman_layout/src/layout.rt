@@ -181,14 +181,23 @@ impl Layout {
         }
     }
 
-    fn put_property(&mut self, property: &Property, depth: usize) -> Result<(), AllocError> {
+    /// A property by its name and its value.
+    pub(crate) fn put_named(
+        &mut self,
+        name: &[u8],
+        value: &[u8],
+        depth: usize,
+    ) -> Result<(), AllocError> {
         self.indent(depth)?;
-        self.put(property.name.as_bytes())?;
-        let value = property.value.as_slice();
+        self.put(name)?;
         if !value.is_empty() {
             self.put_value(value)?;
         }
         self.put(b";\n")
+    }
+
+    fn put_property(&mut self, property: &Property, depth: usize) -> Result<(), AllocError> {
+        self.put_named(property.name.as_bytes(), property.value.as_slice(), depth)
     }
 
     fn put_properties(&mut self, node: &Node, depth: usize) -> Result<(), AllocError> {
@@ -216,8 +225,18 @@ impl Layout {
 
     /// What stands before the root.
     pub(crate) fn put_head(&mut self, tree: &Tree) -> Result<(), AllocError> {
+        self.put_top(tree.reserves())
+    }
+
+    /// The same by the reservations.
+    pub(crate) fn put_top(&mut self, reserves: &[(u64, u64)]) -> Result<(), AllocError> {
         self.put(b"/dts-v1/;\n\n")?;
-        self.put_reserves(tree.reserves())
+        self.put_reserves(reserves)
+    }
+
+    /// How many bytes the text has.
+    pub(crate) fn len(&self) -> usize {
+        self.text.len()
     }
 
     fn put_reserves(&mut self, reserves: &[(u64, u64)]) -> Result<(), AllocError> {

@@ -12,3 +12,5 @@ mod rooms;
 mod runs;
 #[cfg(test)]
 mod several;
+#[cfg(test)]
+mod untrue;

@@ -151,7 +151,7 @@ const DTC_RUNS: &[Row] = &[
     (
         &["dtc", "-O", "dts", "text.dtb"],
         1,
-        "Error: text.dtb: BadMagic: no blob: it doesn't begin with d00dfeed\nFATAL ERROR: Unable to parse input tree\n",
+        "Error: text.dtb:0x0: BadMagic: this is no blob; wanted is the magic number 0xd00dfeed, and 0x30313233 stands there; it is text\nFATAL ERROR: Unable to parse input tree\n",
     ),
     (
         &["dtc", "-o", "-", "-d", "y", "-O", "null", "-"],
