@@ -296,6 +296,28 @@ struct dtman_view_told dtman_edit_reserve(void *buffer, size_t length, uint64_t 
 struct dtman_view_told dtman_edit_unreserve(void *blob, size_t length, size_t index);
 
 /*
+ * Sets a part of a value, from a place of it on, of the property of a name of the node at an offset: nothing moves, and the blocks may stand in
+ * any order. A view that is open over the blob stays right. NOTHING where the node has no such property, OTHER_LENGTH where its value ends
+ * before the part does, BAD_OFFSET, REFUSED by 30 to 33 or 38.
+ */
+struct dtman_view_told dtman_edit_set_part(void *blob, size_t length, size_t node, const void *name, size_t name_length, size_t index,
+	const void *part, size_t part_length);
+
+/*
+ * Makes FDT_NOPs of the property, or of the node with all below it, that begins right at an offset: nothing moves, names stay in the strings,
+ * and the blocks may stand in any order. A view that is open over the blob stays right, but for offsets inside of what went. BAD_OFFSET,
+ * REFUSED; by 34 where a node has no end. Where the root went, the bytes hold no tree.
+ */
+struct dtman_view_told dtman_edit_nop_property(void *blob, size_t length, size_t property);
+struct dtman_view_told dtman_edit_nop_node(void *blob, size_t length, size_t node);
+
+/*
+ * Makes a buffer the blob of a tree whose root has nothing in it, with all room behind it: its size in the header is the buffer's. SHORT in
+ * less than 80 bytes, REFUSED by 38 in more than 2^28.
+ */
+struct dtman_view_told dtman_edit_create(void *buffer, size_t length);
+
+/*
  * Makes the header of the blob at the front of a buffer tell the buffer's size, so that what is behind the blob is its room; nothing else is
  * another. Views over the buffer are to be opened anew. REFUSED by 30 to 33 or 38, or UNORDERED.
  */

@@ -35,14 +35,22 @@ int fdt_setprop(void *fdt, int nodeoffset, const char *name, const void *val, in
 	return offset_of(dtman_edit_set(fdt, fdt_totalsize(fdt), path, strlen(path), name, strlen(name), bytes_of(val), len));
 }
 
+int fdt_setprop_inplace_namelen_partial(void *fdt, int nodeoffset, const char *name, int namelen, uint32_t idx, const void *val, int len)
+{
+	int length;
+
+	if (!fdt_getprop_namelen(fdt, nodeoffset, name, namelen, &length))
+		return length;
+	return offset_of(dtman_edit_set_part(fdt, fdt_totalsize(fdt), nodeoffset, name, namelen, idx, bytes_of(val), len));
+}
+
 int fdt_setprop_inplace(void *fdt, int nodeoffset, const char *name, const void *val, int len)
 {
-	char path[PATH_ROOM];
-	int error = path_of(fdt, nodeoffset, path);
+	int length;
 
-	if (error)
-		return error;
-	return offset_of(dtman_edit_set_in_place(fdt, fdt_totalsize(fdt), path, strlen(path), name, strlen(name), bytes_of(val), len));
+	if (!fdt_getprop(fdt, nodeoffset, name, &length))
+		return length;
+	return length == len ? fdt_setprop_inplace_namelen_partial(fdt, nodeoffset, name, strlen(name), 0, val, len) : -FDT_ERR_NOSPACE;
 }
 
 int fdt_delprop(void *fdt, int nodeoffset, const char *name)
@@ -53,6 +61,25 @@ int fdt_delprop(void *fdt, int nodeoffset, const char *name)
 	if (error)
 		return error;
 	return offset_of(dtman_edit_delete_property(fdt, fdt_totalsize(fdt), path, strlen(path), name, strlen(name)));
+}
+
+/* The offset of a node's property of this name. */
+static int property_of(const void *fdt, int node, const char *name)
+{
+	int at = fdt_first_property_offset(fdt, node);
+	const char *own = NULL;
+
+	for (; at >= 0; at = fdt_next_property_offset(fdt, at))
+		if (fdt_getprop_by_offset(fdt, at, &own, NULL) && !strcmp(own, name))
+			break;
+	return at;
+}
+
+int fdt_nop_property(void *fdt, int nodeoffset, const char *name)
+{
+	int property = property_of(fdt, nodeoffset, name);
+
+	return property < 0 ? property : offset_of(dtman_edit_nop_property(fdt, fdt_totalsize(fdt), property));
 }
 
 /* ---- nodes */
@@ -82,6 +109,14 @@ int fdt_del_node(void *fdt, int nodeoffset)
 	int error = nodeoffset < 0 ? nodeoffset : path_of(fdt, nodeoffset, path);
 
 	return error ? error : offset_of(dtman_edit_delete_node(fdt, fdt_totalsize(fdt), path, strlen(path)));
+}
+
+int fdt_nop_node(void *fdt, int nodeoffset)
+{
+	struct dtman_view view = DTMAN_NO_VIEW;
+	int error = nodeoffset < 0 ? nodeoffset : view_at(fdt, nodeoffset, FDT_BEGIN_NODE, &view);
+
+	return error ? error : offset_of(dtman_edit_nop_node(fdt, fdt_totalsize(fdt), nodeoffset));
 }
 
 /* ---- reserved memory */
@@ -120,6 +155,11 @@ int fdt_pack(void *fdt)
 	return error ? error : offset_of(dtman_edit_trim(fdt, fdt_totalsize(fdt)));
 }
 
+int fdt_create_empty_tree(void *buf, int bufsize)
+{
+	return bufsize < 0 ? -FDT_ERR_NOSPACE : offset_of(dtman_edit_create(buf, bufsize));
+}
+
 /* ---- not served */
 
 #define IS_NOT_SERVED(call, ...) \
@@ -132,13 +172,9 @@ int fdt_pack(void *fdt)
 #pragma GCC diagnostic ignored "-Wunused-parameter"
 
 IS_NOT_SERVED(fdt_setprop_placeholder, void *fdt, int nodeoffset, const char *name, int len, void **prop_data)
-IS_NOT_SERVED(fdt_setprop_inplace_namelen_partial, void *fdt, int nodeoffset, const char *name, int namelen, uint32_t idx, const void *val, int len)
 IS_NOT_SERVED(fdt_appendprop, void *fdt, int nodeoffset, const char *name, const void *val, int len)
 IS_NOT_SERVED(fdt_appendprop_addrrange, void *fdt, int parent, int nodeoffset, const char *name, uint64_t addr, uint64_t size)
-IS_NOT_SERVED(fdt_nop_property, void *fdt, int nodeoffset, const char *name)
-IS_NOT_SERVED(fdt_nop_node, void *fdt, int nodeoffset)
 IS_NOT_SERVED(fdt_set_name, void *fdt, int nodeoffset, const char *name)
-IS_NOT_SERVED(fdt_create_empty_tree, void *buf, int bufsize)
 IS_NOT_SERVED(fdt_create_with_flags, void *buf, int bufsize, uint32_t flags)
 IS_NOT_SERVED(fdt_create, void *buf, int bufsize)
 IS_NOT_SERVED(fdt_resize, void *fdt, void *buf, int bufsize)

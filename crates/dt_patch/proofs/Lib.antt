@@ -1,6 +1,7 @@
 mod Blocks
 mod Changed
 mod Cuts
+mod Empties
 mod Fills
 mod Firsts
 mod Found
@@ -9,7 +10,9 @@ mod Lists
 mod Makes
 mod Named
 mod Nodes
+mod Nops
 mod Pairs
+mod PartValues
 mod Puts
 mod Rooms
 mod Sets

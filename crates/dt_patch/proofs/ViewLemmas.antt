@@ -14,4 +14,5 @@ pub mod Reaches
 pub mod Shapes
 pub mod Spellings
 pub mod Steps
+pub mod Throughs
 pub mod Walks

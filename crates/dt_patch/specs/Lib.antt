@@ -1,5 +1,8 @@
 pub mod Adding
+pub mod Creating
+pub mod Nopping
 pub mod Order
+pub mod Parts
 pub mod Private
 pub mod Removing
 pub mod Reserving

@@ -1,6 +1,7 @@
 pub mod Aliases
 pub mod Alike
 pub mod Cells
+pub mod Ending
 pub mod Order
 pub mod Parents
 pub mod Places

@@ -1,7 +1,8 @@
 //! Bytes written in the place of others.
-ghost use Rattle.std.specs.Prelude.{◌≡◌, ◌+◌, ◌-◌, ◌%◌, ◌≤◌, ◌<◌, ◌^◌, length};
+ghost use Rattle.std.specs.Prelude.{◌≡◌, ◌+◌, ◌*◌, ◌-◌, ◌%◌, ◌≤◌, ◌<◌, ◌^◌, length};
 ghost use Rattle.dt_blob.specs.BigEndian.{double_word, word};
 ghost use Rattle.dt_blob.specs.Blob.{padding};
+ghost use Rattle.dt_patch.specs.Nopping.{nops};
 ghost use Rattle.dt_patch.specs.Private.Places.{put_at};
 ghost use Rattle.dt_patch.specs.Private.Cutting.{node_bytes};
 ghost use Rattle.dt_patch.specs.Private.Pieces.{property_bytes};
@@ -14,6 +15,9 @@ const BEGIN_NODE: u32 = 1;
 const END_NODE: u32 = 2;
 
 const PROPERTY: u32 = 3;
+
+/// The word of a token that says nothing.
+const NOP: u32 = 4;
 
 /// Puts bytes at a place.
 pub(crate) fn put(blob: &mut [u8], at: usize, bytes: &[u8])
@@ -78,4 +82,14 @@ pub(crate) fn put_node(blob: &mut [u8], at: usize, name: &[u8])
     put(blob, end, &[0]);
     put_padding(blob, end + 1, name.len() + 1);
     put_word(blob, end + 1 + (4 - (name.len() + 1) % 4) % 4, END_NODE);
+}
+
+/// Puts so many NOPs at a place.
+pub(crate) fn put_nops(blob: &mut [u8], at: usize, count: usize)
+    requires { at + 4 * count ≤ length blob.old }
+    ensures { blob.new ≡ put_at blob.old at (nops count) }
+{
+    for place in 0..count {
+        put_word(blob, at + 4 * place, NOP);
+    }
 }

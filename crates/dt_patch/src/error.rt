@@ -30,4 +30,6 @@ pub enum PatchError {
     EndPair,
     /// No reservation has the place.
     NoReservation,
+    /// No node, or no property, begins right at the offset.
+    BadOffset,
 }

@@ -84,6 +84,14 @@ pub(crate) fn reserves_at(blob: &[u8]) -> usize
     word(blob, 16) as usize
 }
 
+/// Where the structure block begins, as the header says.
+pub(crate) fn structure_at(blob: &[u8]) -> usize
+    requires { 40 ≤ length blob.now }
+    ensures { result ≡ word_at 8 blob.now }
+{
+    word(blob, 8) as usize
+}
+
 /// Makes the header say where the blocks stand.
 pub(crate) fn lay(blob: &mut [u8], layout: &Layout)
     requires whole { 40 ≤ length blob.old }

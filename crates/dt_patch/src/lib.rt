@@ -5,9 +5,12 @@
 
 mod adding;
 mod bytes;
+mod creating;
 mod error;
 mod layout;
 mod naming;
+mod nopping;
+mod parts;
 mod placing;
 mod planning;
 mod removing;
@@ -18,7 +21,10 @@ mod splicing;
 pub mod view;
 
 pub use adding::add_node;
+pub use creating::create_empty;
 pub use error::PatchError;
+pub use nopping::{nop_node, nop_property};
+pub use parts::set_part;
 pub use removing::{delete_node, delete_property};
 pub use reserving::{add_reservation, delete_reservation};
 pub use setting::{set, set_in_place};

@@ -13,7 +13,7 @@ use crate::view::{NodeOffset, PlacedProperty, View, ViewError, held_is_shown};
 use dt_blob::BlobError;
 
 /// The bytes of a property's token before its value.
-const PROPERTY_HEAD: usize = 12;
+pub(crate) const PROPERTY_HEAD: usize = 12;
 
 pub(crate) fn node_place(view: &View<'_>, path: &[u8]) -> Result<NodeOffset, PatchError>
     ensures { (tree : TreeData) → Views view.now tree

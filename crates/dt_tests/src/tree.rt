@@ -15,6 +15,10 @@ mod likes;
 #[cfg(test)]
 mod merges;
 #[cfg(test)]
+mod nops;
+#[cfg(test)]
+mod parts;
+#[cfg(test)]
 mod patches;
 #[cfg(test)]
 mod removals;

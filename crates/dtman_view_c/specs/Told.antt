@@ -88,6 +88,7 @@ unchanged Exists = exists
 unchanged TooDeep = too_deep
 unchanged EndPair = end_pair
 unchanged NoReservation = nothing
+unchanged patch.BadOffset = bad_offset
 
 abbrev pub edited : Option PatchError → ViewTold
 edited None = done 0
@@ -110,3 +111,7 @@ TellsNode MayBe told = (answer : Result (Option NodeOffset) ViewError) × MayBe 
 
 abbrev pub TellsProperty : (Result (Option PropertyOffset) ViewError → Type 0) → ViewTold → Type 0
 TellsProperty MayBe told = (answer : Result (Option PropertyOffset) ViewError) × MayBe answer × (told ≡ property_told answer)
+
+-- what is told is a refusal that has its reason
+abbrev pub IsRefusedSo : (PatchError → Type 0) → ViewTold → Type 0
+IsRefusedSo MayBe told = (error : PatchError) × MayBe error × (told ≡ unchanged error)

@@ -121,6 +121,7 @@ pub(crate) fn unchanged(error: PatchError) -> ViewTold
         PatchError::TooDeep => ended(TOO_DEEP, 0, 0),
         PatchError::EndPair => ended(END_PAIR, 0, 0),
         PatchError::NoReservation => nothing(),
+        PatchError::BadOffset => ended(BAD_OFFSET, 0, 0),
     }
 }
 

@@ -5,6 +5,7 @@ use Rattle.dt_tree.specs.NodeData.{NodeData, Siblings, none, more}
 use Rattle.dt_blob.specs.Holds.{is_nop}
 use Rattle.dt_blob.specs.Token.{Token, begin_node, end_node, property, nop, end, property_tokens, sibling_tokens, tokens_of}
 use Rattle.dt_patch.specs.declared.view.view.View.{View}
+use Rattle.dt_patch.specs.View.Ending.{closed}
 use Rattle.dt_patch.specs.View.Private.Reading.{Finds, Opens, StandsNothing, inside_tokens}
 use Rattle.dt_patch.specs.View.Reaching.{Reached}
 use Rattle.dt_patch.specs.View.Standing.{Ahead, HasNoNode, StandFrom, StandsAt, ends}
@@ -92,16 +93,6 @@ met_nop_inside view from at next t (q ∷ qs) nodes last f e l a =
     let bad : nop ≡ property q.name q.value = sym e ∙ p.0 in cc bad
 
 -- ---- the end of a node
-
--- what stands behind the end of the node that has so many open ones inside
-abbrev pub closed : ℕ → List Token → Option (List Token)
-closed d [] = None
-closed d (begin_node name ∷ ts) = closed (suc d) ts
-closed zero (end_node ∷ ts) = Some ts
-closed (suc d) (end_node ∷ ts) = closed d ts
-closed d (property name value ∷ ts) = closed d ts
-closed d (nop ∷ ts) = None
-closed d (end ∷ ts) = None
 
 closed_properties : (d : ℕ) (ps : List Property) (ts : List Token) → closed d (property_tokens ps ++ ts) ≡ closed d ts
 closed_properties d [] ts = refl

@@ -14,10 +14,11 @@ use Rattle.dt_patch.specs.declared.view.view.View.{View}
 use Rattle.dt_patch.specs.declared.view.properties.PlacedProperty.{PlacedProperty}
 use Rattle.dt_patch.specs.View.Places.{IsPlaceOf}
 use Rattle.dt_patch.specs.View.Placing.{TellsPlaced}
+use Rattle.dt_patch.specs.View.Ending.{closed}
 use Rattle.dt_patch.specs.View.Private.Reading.{Finds, inside_tokens}
 use Rattle.dt_patch.specs.View.Reaching.{IsSpelled, Reached, TellsReached, before_child, before_node, before_property}
 use Rattle.dt_patch.specs.View.Standing.{Ahead, StandsAt, ends, ends_properties}
-use Rattle.dt_patch.proofs.ViewLemmas.Descents.{behind_begin, closed, closed_inside, the_node}
+use Rattle.dt_patch.proofs.ViewLemmas.Descents.{behind_begin, closed_inside, the_node}
 
 -- ---- to the end of a node
 

@@ -1,11 +1,12 @@
 //! Walks from node to node.
-ghost use Rattle.std.specs.Prelude.{◌≡◌, ◌≤◌, ◌∷◌, ◌++◌, [], List, IfOk, IsOkAnd, length, true, ℕ};
+ghost use Rattle.std.specs.Prelude.{◌≡◌, ◌≤◌, ◌∷◌, ◌++◌, [], List, IfOk, IsOkAnd, OnErr, Some, length, true, ℕ};
 ghost use Rattle.dt_tree.specs.NodeData.{NodeData, Siblings, more};
 ghost use Rattle.dt_tree.specs.TreeData.{TreeData};
 ghost use Rattle.dt_tree.specs.declared.property.Property.{Property};
 ghost use Rattle.dt_blob.specs.Token.{Token, end_node, property_tokens, sibling_tokens};
+ghost use Rattle.dt_patch.specs.View.Ending.{closed};
 ghost use Rattle.dt_patch.specs.View.Order.{StandsIn, all_of};
-ghost use Rattle.dt_patch.specs.View.Private.Reading.{inside_tokens};
+ghost use Rattle.dt_patch.specs.View.Private.Reading.{Ends, inside_tokens};
 ghost use Rattle.dt_patch.specs.View.Reaching.{Reached};
 ghost use Rattle.dt_patch.specs.View.Shows.{Views};
 ghost use Rattle.dt_patch.specs.View.Standing.{Ahead, HasNoNode, StandFrom, StandsAt, ends};
@@ -50,6 +51,8 @@ impl<'a> View<'a> {
             → IsOkAnd result (λ next. Reached self.now next (before ++ (property_tokens ps ++ (sibling_tokens nodes ++ end_node ∷ [])))) }
         ensures further { IfOk result (λ next. from ≤ next) }
         ensures within { IfOk result (λ next. next ≤ length self.now.structure.now) }
+        ensures ended { IfOk result (λ next. Ends self.now from next) }
+        ensures endless { OnErr result ((ts : List Token) → Ahead self.now from ts → closed 0 ts ≡ Some [] → ⊥) }
     {
         let mut at = from;
         let mut levels = 0usize;

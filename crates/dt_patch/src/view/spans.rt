@@ -1,8 +1,9 @@
 //! Where what stands in a node ends: places at which a blob can be changed.
-ghost use Rattle.std.specs.Prelude.{◌≡◌, ◌≤◌, ◌<◌, ◌∷◌, ◌++◌, [], List, IfOk, IsOkAnd, length, true};
+ghost use Rattle.std.specs.Prelude.{◌≡◌, ◌≤◌, ◌<◌, ◌∷◌, ◌++◌, [], List, IfOk, IsOkAnd, MatchResult, length, true, ℕ};
 ghost use Rattle.dt_tree.specs.NodeData.{NodeData, Siblings};
 ghost use Rattle.dt_tree.specs.declared.property.Property.{Property};
 ghost use Rattle.dt_blob.specs.Token.{Token, begin_node, end_node, property_tokens, sibling_tokens, tokens_of};
+ghost use Rattle.dt_patch.specs.Nopping.{HasBeginning, HasProperty};
 ghost use Rattle.dt_patch.specs.View.Private.Reading.{Finds};
 ghost use Rattle.dt_patch.specs.View.Reaching.{Reached};
 ghost use Rattle.dt_patch.specs.View.Standing.{Ahead, HasNoNode, StandsAt, ends_properties};
@@ -42,6 +43,36 @@ impl<'a> View<'a> {
     {
         let begun = self.begin(node.at)?;
         self.properties_end_from(begun.next)
+    }
+
+    /// The offset behind the property that begins right at one.
+    pub(crate) fn property_end(&self, at: usize) -> Result<usize, ViewError>
+        ensures { MatchResult result (λ next. HasProperty self.now.strings.now self.now.structure.now at next)
+            (λ e. (next : ℕ) → HasProperty self.now.strings.now self.now.structure.now at next → ⊥) }
+    {
+        let (token, next) = self.token(at)?;
+        match token {
+            BlobToken::Property(_, _) => Ok(next),
+            BlobToken::BeginNode(_) => Err(ViewError::BadOffset),
+            BlobToken::EndNode => Err(ViewError::BadOffset),
+            BlobToken::Nop => Err(ViewError::BadOffset),
+            BlobToken::End => Err(ViewError::BadOffset),
+        }
+    }
+
+    /// The offset behind the beginning of a node that stands right at one.
+    pub(crate) fn beginning_end(&self, at: usize) -> Result<usize, ViewError>
+        ensures { MatchResult result (λ next. HasBeginning self.now.strings.now self.now.structure.now at next)
+            (λ e. (next : ℕ) → HasBeginning self.now.strings.now self.now.structure.now at next → ⊥) }
+    {
+        let (token, next) = self.token(at)?;
+        match token {
+            BlobToken::BeginNode(_) => Ok(next),
+            BlobToken::EndNode => Err(ViewError::BadOffset),
+            BlobToken::Property(_, _) => Err(ViewError::BadOffset),
+            BlobToken::Nop => Err(ViewError::BadOffset),
+            BlobToken::End => Err(ViewError::BadOffset),
+        }
     }
 
     /// The offset behind the end of a node, with all below it.

@@ -34,7 +34,7 @@ fn is_nop(token: BlobToken<'_>) -> bool
 
 impl<'a> View<'a> {
     /// The token at an offset, and the offset behind it.
-    fn token(&self, from: usize) -> Result<(BlobToken<'a>, usize), ViewError>
+    pub(crate) fn token(&self, from: usize) -> Result<(BlobToken<'a>, usize), ViewError>
         ensures { MatchResult result (λ x. Reads self.now from (token_of x.0) x.1)
             (λ e. StandsNothing self.now from × (e ≡ ViewError.BadOffset)) }
     {

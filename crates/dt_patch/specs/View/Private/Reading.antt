@@ -1,10 +1,11 @@
 -- What a reader of tokens learns.
-use Rattle.std.specs.Prelude.{◌≡◌, ℕ, ◌≤◌, ◌<◌, true, false, List, [], ◌∷◌, ◌++◌, length}
+use Rattle.std.specs.Prelude.{◌≡◌, ℕ, ◌-◌, ◌≤◌, ◌<◌, true, false, List, [], ◌∷◌, ◌++◌, length, take, drop, Some}
 use Rattle.dt_tree.specs.declared.property.Property.{Property}
 use Rattle.dt_tree.specs.NodeData.{Siblings}
-use Rattle.dt_blob.specs.Holds.{is_nop}
+use Rattle.dt_blob.specs.Holds.{Spells, is_nop, without_nops}
 use Rattle.dt_blob.specs.Token.{Token, begin_node, property, property_tokens, sibling_tokens}
 use Rattle.dt_patch.specs.declared.view.view.View.{View}
+use Rattle.dt_patch.specs.View.Ending.{closed}
 use Rattle.dt_patch.specs.View.Reaching.{IsSpelled, Reached}
 use Rattle.dt_patch.specs.View.Standing.{Ahead}
 
@@ -24,12 +25,25 @@ pub record Reads (view : View) (from : ℕ) (t : Token) (next : ℕ) : Type 0 wh
   pub further : from < next
   pub inside : next ≤ length view.structure.now
 
+-- from one offset up to another these tokens are spelled, NOPs left out
+pub record Through (view : View) (from next : ℕ) (tokens : List Token) : Type 0 where
+  pub all : List Token
+  pub spells : Spells view.strings.now all (take (next - from) (drop from view.structure.now))
+  pub kept : without_nops all ≡ tokens
+
+-- the tokens up to an offset end with the end of the node in which they stand
+pub record Ends (view : View) (from next : ℕ) : Type 0 where
+  pub tokens : List Token
+  pub through : Through view from next tokens
+  pub closes : closed 0 tokens ≡ Some []
+
 -- the first one that is no NOP begins at an offset, and ends at another
 pub record Finds (view : View) (from : ℕ) (t : Token) (at next : ℕ) : Type 0 where
   pub ahead : (u : Token) (us : List Token) → Ahead view from (u ∷ us) → (t ≡ u) × Ahead view at (u ∷ us) × Ahead view next us
   pub back : (us : List Token) → Ahead view next us → Ahead view from (t ∷ us)
   pub reach : (ts : List Token) → Reached view from ts → Reached view at ts × Reached view next (ts ++ t ∷ [])
   pub spelled : IsSpelled view at t next
+  pub through : Through view from next (t ∷ [])
   pub begins : from ≤ at
   pub further : at < next
   pub inside : next ≤ length view.structure.now
