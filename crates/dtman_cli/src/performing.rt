@@ -150,7 +150,11 @@ fn answer_of<'a, S: Surroundings, E: Eprint, T: Threads + Sync>(
         } => printed(host, source, &definitions),
         Command::Overlay { base, overlay, out } => overlaid(host, base, overlay, out),
         Command::Dump { blob, labels } => dumped(host, blob, labels),
-        Command::Plan { board, picture } => planned(host, board, picture),
+        Command::Plan {
+            board,
+            picture,
+            late,
+        } => planned(host, board, picture, late),
         Command::Probe {
             board,
             timeout,

@@ -11,12 +11,16 @@ use std::alloc::Global;
 use std::thread::Threads;
 
 // The plan file, or the picture that is asked for: one, and of a device only where there is a picture.
-fn plan_asked<'a>(picture: Picture<'a>) -> Result<Asked<'a>, Failure<'a>> {
+fn plan_asked<'a>(picture: Picture<'a>, late: bool) -> Result<Asked<'a>, Failure<'a>> {
+    if late && (picture.dot || picture.html) {
+        return Err(Failure::BadWord("--late", "not beside --dot or --html"));
+    }
     let form = match (picture.dot, picture.html) {
         (true, true) => return Err(Failure::BadWord("--html", "not beside --dot")),
         (true, false) => Form::Graph,
         (false, true) => Form::Page,
         (false, false) => match picture.of {
+            None if late => return Ok(Asked::LatePlan),
             None => return Ok(Asked::Plan),
             Some(_) => return Err(Failure::BadWord("--of", "wants --dot or --html")),
         },
@@ -30,8 +34,9 @@ pub fn planned<'a, S: Surroundings, E: Eprint, T: Threads + Sync>(
     host: &mut Host<'_, S, E, T>,
     board: Board<'a>,
     picture: Picture<'a>,
+    late: bool,
 ) -> Result<Answer<'a>, Failure<'a>> {
-    let asked = plan_asked(picture)?;
+    let asked = plan_asked(picture, late)?;
     let answer = answered(host, board, None, None, asked)?;
     Ok(Answer::Text(answer.text))
 }
@@ -127,7 +132,7 @@ fn kind_of(links: Option<Rules>) -> TextKind {
 // The path of the device that is asked for.
 fn path_in<'a>(asked: Asked<'a>) -> Option<&'a [u8]> {
     match asked {
-        Asked::Plan | Asked::Report(_) => None,
+        Asked::Plan | Asked::LatePlan | Asked::Report(_) => None,
         Asked::Picture(picture) => picture.of,
         Asked::Why(path) => path,
         Asked::Needs(path) => Some(path),

@@ -17,6 +17,8 @@ use std::thread::Threads;
 pub enum Asked<'a> {
     /// Its text.
     Plan,
+    /// Its text as the end of Linux's timeout leaves it; without links it is the same.
+    LatePlan,
     /// A picture of it.
     Picture(Picture<'a>),
     /// The end report of a run by so many workers.
@@ -72,7 +74,7 @@ fn planned_answer<R: Threads + Sync>(
     asked: Asked<'_>,
 ) -> Result<BoardAnswer, Fault> {
     let text = match asked {
-        Asked::Plan => plan_bytes(alloc, hasher, blob, drivers)?,
+        Asked::Plan | Asked::LatePlan => plan_bytes(alloc, hasher, blob, drivers)?,
         Asked::Picture(picture) => {
             let plan = planned(alloc, hasher, blob, drivers)?;
             planned_picture(rt, alloc, &plan, picture)?

@@ -10,6 +10,7 @@ use crate::reasons::BuiltIn;
 use crate::rules::Rules;
 use crate::waits::Waits;
 use bus_links::{link, linked_text, read_link_drivers, warnings_text};
+use bus_plan::plan_text;
 use dt_blob::read;
 use dtman_engine::Fault;
 use std::alloc::Global;
@@ -30,6 +31,7 @@ fn answer<R: Threads + Sync>(
     let linked = board.linked;
     match asked {
         Asked::Plan => Ok(alone(linked_text(alloc, linked)?)),
+        Asked::LatePlan => Ok(alone(plan_text(alloc, linked.late())?)),
         Asked::Picture(picture) => Ok(alone(linked_picture(rt, alloc, linked, picture)?)),
         Asked::Report(workers) => Ok(alone(boot_report(rt, alloc, board, workers)?)),
         Asked::Why(path) => boot_why(rt, alloc, board, path),

@@ -74,7 +74,17 @@ pub fn add_cause(
     }
 }
 
-/// Puts a chain behind a text: `PATH waits for PATH (PROPERTY) waits for PATH (PROPERTY): CAUSE`.
+/// How many devices of a chain are shown before those that aren't: all but the last one behind them.
+const IN_FRONT: usize = 31;
+
+// Says how many devices of a chain aren't shown.
+fn add_hidden(alloc: Global, text: &mut Vec<u8>, count: usize) -> Result<(), AllocError> {
+    let hidden = format!(in alloc; " waits for ({count} more)")?;
+    text.extend_from_slice(hidden.as_bytes())
+}
+
+/// Puts a chain behind a text: `PATH waits for PATH (PROPERTY) waits for PATH (PROPERTY): CAUSE`. Of one of more than 32 devices the first
+/// 31 are shown, and the last.
 pub fn add_waits<S: Reasons>(
     alloc: Global,
     text: &mut Vec<u8>,
@@ -84,7 +94,15 @@ pub fn add_waits<S: Reasons>(
     chain: &Chain,
 ) -> Result<(), AllocError> {
     let mut before: Option<Device> = None;
-    for device in &chain.devices {
+    let last = chain.devices.len().saturating_sub(1);
+    for (place, device) in chain.devices.iter().enumerate() {
+        if IN_FRONT <= place && place < last {
+            if place == IN_FRONT {
+                add_hidden(alloc, text, last - IN_FRONT)?;
+            }
+            before = Some(*device);
+            continue;
+        }
         if before.is_some() {
             text.extend_from_slice(b" waits for ")?;
         }

@@ -15,7 +15,7 @@ fn is_told(strictness: Strictness, asked: Asked<'_>) -> bool {
     match asked {
         Asked::Why(_) => true,
         Asked::Report(_) => matches!(strictness, Strictness::Strict),
-        Asked::Plan | Asked::Picture(_) | Asked::Needs(_) => false,
+        Asked::Plan | Asked::LatePlan | Asked::Picture(_) | Asked::Needs(_) => false,
     }
 }
 

@@ -118,7 +118,8 @@ IsMet (Overlay base overlay out) name rows =
     (name ≡ codes "overlay") × (first_of (codes "BASE") rows ≡ Some base.now) × (first_of (codes "OVERLAY") rows ≡ Some overlay.now) × (first_of (codes "OUT") rows ≡ Some out.now)
 IsMet (Dump blob labels) name rows =
     (name ≡ codes "dump") × (first_of (codes "IN") rows ≡ Some blob.now) × (labels ≡ is_on (first_of (codes "labels") rows))
-IsMet (Plan board picture) name rows = (name ≡ codes "plan") × IsBoard board rows × IsPicture picture rows
+IsMet (Plan board picture late) name rows =
+    (name ≡ codes "plan") × IsBoard board rows × IsPicture picture rows × (late ≡ is_on (first_of (codes "late") rows))
 IsMet (Probe board timeout workers without) name rows =
     (name ≡ codes "probe") × IsBoard board rows × IsText timeout (codes "timeout") rows
     × AreWorkers workers rows × IsText without (codes "without") rows

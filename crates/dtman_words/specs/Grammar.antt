@@ -88,7 +88,9 @@ abbrev pub overlay : App
 overlay = with_rule (with_rule (with_rule (new_app (codes "overlay")) (required (codes "BASE"))) (required (codes "OVERLAY"))) (required (codes "OUT"))
 
 abbrev pub plan : App
-plan = with_links (with_picture (with_rule (with_rule (new_app (codes "plan")) (required (codes "BLOB"))) (required (codes "DRIVERS"))))
+plan =
+    with_rule (with_links (with_picture (with_rule (with_rule (new_app (codes "plan")) (required (codes "BLOB"))) (required (codes "DRIVERS")))))
+    (beside (codes "late"))
 
 abbrev pub replay : App
 replay =

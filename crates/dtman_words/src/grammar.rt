@@ -294,7 +294,10 @@ fn plan<'a>(alloc: Global) -> Result<Command<'a>, AllocError>
     let about = "Prints the plan of a blob: its devices, their drivers and suppliers";
     let command = named(alloc, "plan", about).arg(required(alloc, "BLOB", "The blob"));
     let command = add_argument(command, required(alloc, "DRIVERS", "The driver file"));
-    add_links(alloc, add_picture(alloc, command))
+    let command = add_links(alloc, add_picture(alloc, command));
+    let late = "As the end of the timeout leaves it";
+    let late = beside(alloc, "late", "links", late)?;
+    add_argument(command, late)
 }
 
 fn replay<'a>(alloc: Global) -> Result<Command<'a>, AllocError>

@@ -217,6 +217,7 @@ fn plan<'a>(given: &ArgMatches<'a>) -> Option<Command<'a>>
     Some(Command::Plan {
         board: board(given)?,
         picture: picture(given),
+        late: is_on(given, "late"),
     })
 }
 

@@ -128,6 +128,8 @@ pub enum Command<'a> {
     Plan {
         board: Board<'a>,
         picture: Picture<'a>,
+        /// As the end of Linux's timeout leaves it.
+        late: bool,
     },
     Replay {
         plan: &'a str,

@@ -185,7 +185,8 @@ fn reads_plan_with_its_option(rt: HostRuntime) {
                     dot: false,
                     html: false,
                     of: None
-                }
+                },
+                late: false
             })
         )
     );
@@ -216,7 +217,8 @@ fn reads_plan_as_a_picture(rt: HostRuntime) {
                     dot: true,
                     html: false,
                     of: Some("/a")
-                }
+                },
+                late: false
             })
         )
     );
